@@ -1,0 +1,6 @@
+use native.Mathlib.Omega.{arith}
+use Rattle.metrics.proofs.Lawful.{capped-path}
+use Rattle.metrics.proofs.calls.CallsMetric.join.Needs as need
+
+pub returns : need.returns
+returns c = capped-path _ _ (omega arith)

@@ -1,0 +1,4 @@
+pub mod Measures
+pub mod Sums
+pub mod Pairs
+pub mod Joins

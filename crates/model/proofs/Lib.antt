@@ -1,0 +1,12 @@
+pub mod Moves
+pub mod Totals
+pub mod Meeting
+pub mod Rows
+pub mod Joined
+pub mod Regroup
+pub mod Trees
+pub mod Added
+pub mod Prefixes
+pub mod Limits
+pub mod InOrder
+pub mod Rowless

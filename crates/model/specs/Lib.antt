@@ -1,0 +1,4 @@
+pub mod Positions
+pub mod Summaries
+pub mod Trees
+pub mod Limits

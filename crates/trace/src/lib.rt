@@ -1,0 +1,5 @@
+// What a trace means: its records, the faults that can end it, and the sources that deliver it.
+
+pub mod fault;
+pub mod record;
+pub mod source;
