@@ -1,0 +1,7 @@
+pub mod Views
+pub mod Chains
+pub mod Sounds
+pub mod Readings
+pub mod Bridge
+pub mod Flats
+pub mod Columns

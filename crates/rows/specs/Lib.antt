@@ -1,0 +1,10 @@
+pub mod Numbers
+pub mod Shapes
+pub mod Cells
+pub mod Index
+pub mod Sound
+pub mod Steps
+pub mod Reading
+pub mod Gains
+pub mod Flats
+pub mod Columns
