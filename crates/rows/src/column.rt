@@ -5,11 +5,12 @@ ghost use lib.ListN.{length, getD, set};
 ghost use Rattle.rows.specs.Shapes.{shapes, blank};
 ghost use Rattle.rows.specs.Cells.{values};
 ghost use Rattle.rows.specs.Sound.{Table};
-ghost use Rattle.rows.specs.Columns.{meanings, Copied, handed, Filled};
+ghost use Rattle.rows.specs.Columns.{meanings, Copied, handed, Filled, unshaped, Shaped};
 
 use crate::cell::look;
 use crate::cell::value_of;
 use crate::row::Row;
+use crate::shape::ShapeRow;
 use metrics::metric::Metric;
 
 // Copies the value of the row k.
@@ -63,5 +64,26 @@ pub fn fill<M: Metric>(rows: &[Row<M>], n: usize, column: &mut [M])
         i -= 1;
         let p = look(rows, i).parent;
         hand_up(column, p, i);
+    }
+}
+
+// Writes function and parent of the row k.
+fn copy_shape<M>(rows: &[Row<M>], column: &mut [ShapeRow], k: usize)
+    requires row { ⌜ k < length (now rows) ⌝ }
+    requires place { ⌜ k < length (now column) ⌝ }
+    ensures { λ _. ⌜ now (column .exit) ≡ set (now (column .entry)) k (record { function = getD (shapes (now (rows .entry))) k blank .function; parent = getD (shapes (now (rows .entry))) k blank .parent }) ⌝ }
+{
+    let seen = look(rows, k);
+    column[k] = ShapeRow { function: seen.function, parent: seen.parent as u16 };
+}
+
+// Fills the column with the shape of the first n rows.
+pub fn fill_shape<M>(rows: &[Row<M>], n: usize, column: &mut [ShapeRow])
+    requires fits { ⌜ n ≤ length (now rows) ⌝ }
+    requires long { ⌜ n ≤ length (now column) ⌝ }
+    ensures { λ _. ⌜ Shaped (shapes (now (rows .entry))) (now (column .entry)) (now (column .exit)) n ⌝ }
+{
+    for k in 0..n {
+        copy_shape(rows, column, k);
     }
 }

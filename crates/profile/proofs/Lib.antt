@@ -1,0 +1,3 @@
+pub mod Giving
+pub mod Wholes
+pub mod Telling

@@ -1,0 +1,4 @@
+pub mod Given
+pub mod View
+pub mod Leaves
+pub mod Inclusions

@@ -1,0 +1,4 @@
+// What is computed: the summary of the records that were put in, and the tree that comes of it.
+
+pub mod summary;
+pub mod tree;
