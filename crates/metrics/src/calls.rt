@@ -1,6 +1,5 @@
 // Calls: how often a context was entered.
 ghost use Rattle.metrics.specs.Sums.{Capped, capped, calls};
-
 use crate::metric::Metric;
 use trace::record::Sample;
 
@@ -26,10 +25,12 @@ pub impl Metric for Calls as CallsMetric {
     }
 
     fn of_sample(_sample: Sample) -> Calls {
-        Calls { count: 0 }
+        Self::unit()
     }
 
     fn join(self, other: Calls) -> Calls {
-        Calls { count: self.count.saturating_add(other.count) }
+        Calls {
+            count: self.count.saturating_add(other.count),
+        }
     }
 }

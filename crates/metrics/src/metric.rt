@@ -3,7 +3,6 @@ ghost use mathlib.Core.Path.{_≡_};
 ghost use mathlib.Core.Bool.{true};
 ghost use Rattle.trace.specs.Ranges.{sample-in-range};
 ghost use Rattle.metrics.specs.Measures.{Measure, Laws};
-
 use trace::record::Sample;
 
 // A metric is the type of its values. They are small and copied freely.

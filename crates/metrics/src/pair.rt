@@ -1,6 +1,5 @@
 // Pair: two metrics side by side.
 ghost use Rattle.metrics.specs.Pairs.{pair};
-
 use crate::metric::Metric;
 use trace::record::Sample;
 
@@ -18,18 +17,30 @@ pub impl<A: Metric, B: Metric> Metric for Pair<A, B> as PairMetric {
     ghost measure = { pair (A·Metric .measure) (B·Metric .measure) };
 
     fn unit() -> Pair<A, B> {
-        Pair { first: A::unit(), second: B::unit() }
+        Pair {
+            first: A::unit(),
+            second: B::unit(),
+        }
     }
 
     fn of_call() -> Pair<A, B> {
-        Pair { first: A::of_call(), second: B::of_call() }
+        Pair {
+            first: A::of_call(),
+            second: B::of_call(),
+        }
     }
 
     fn of_sample(sample: Sample) -> Pair<A, B> {
-        Pair { first: A::of_sample(sample), second: B::of_sample(sample) }
+        Pair {
+            first: A::of_sample(sample),
+            second: B::of_sample(sample),
+        }
     }
 
     fn join(self, other: Pair<A, B>) -> Pair<A, B> {
-        Pair { first: self.first.join(other.first), second: self.second.join(other.second) }
+        Pair {
+            first: self.first.join(other.first),
+            second: self.second.join(other.second),
+        }
     }
 }

@@ -1,6 +1,5 @@
 // Work: how much weight the samples of a context have.
 ghost use Rattle.metrics.specs.Sums.{Capped, capped, work};
-
 use crate::metric::Metric;
 use trace::record::Sample;
 
@@ -22,14 +21,18 @@ pub impl Metric for Work as WorkMetric {
     }
 
     fn of_call() -> Work {
-        Work { weight: 0 }
+        Self::unit()
     }
 
     fn of_sample(sample: Sample) -> Work {
-        Work { weight: sample.weight as u64 }
+        Work {
+            weight: sample.weight as u64,
+        }
     }
 
     fn join(self, other: Work) -> Work {
-        Work { weight: self.weight.saturating_add(other.weight) }
+        Work {
+            weight: self.weight.saturating_add(other.weight),
+        }
     }
 }

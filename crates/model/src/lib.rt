@@ -4,7 +4,6 @@ ghost use mathlib.Core.Path.{_≡_};
 ghost use Rattle.model.specs.Summaries.{In-order, Joins, Joins-rows, Adds, Prefixes, Rowless};
 ghost use Rattle.model.specs.Trees.{Values, Paths, Inclusive};
 ghost use Rattle.model.specs.Limits.{Counted};
-
 use metrics::metric::Metric;
 
 // What holds of the summary of every list of records.
@@ -16,13 +15,11 @@ pub fn summary_laws<M: Metric>()
     ensures prefixes { λ _. ⌜ Prefixes measure ⌝ }
     ensures counted { λ _. ⌜ Counted measure ⌝ }
     ensures rowless { λ _. ⌜ Rowless measure ⌝ }
-{
-}
+{}
 
 // What holds of the tree of every list of records.
 pub fn tree_laws<M: Metric>()
     ensures values { λ _. ⌜ Values measure ⌝ }
     ensures paths { λ _. ⌜ Paths measure ⌝ }
     ensures inclusive { λ _. ⌜ Inclusive measure ⌝ }
-{
-}
+{}

@@ -26,7 +26,7 @@ use Rattle.rows.specs.Steps.{Reached, Entered, Refused, grown, grownValues}
 use Rattle.rows.specs.Reading.{trail, context, listed, reading}
 use Rattle.rows.specs.Gains.{Gains}
 use Rattle.trace.specs.Ranges.{from-to, in-range, InRange}
-use Rattle.profile.specs.Given.{Held, need, Taken, Refuses, Given}
+use Rattle.profile.specs.Given.{Held, need, step, Accepts, Refuses, Given}
 use Rattle.rows.proofs.Sounds.{Alike, put-alike}
 use Rattle.rows.proofs.Readings.{context-kid, context-root, depth-is, any-at}
 use Rattle.rows.proofs.Bridge.{gains-reached, gains-root, none-there, called, sampled, returned-kid, returned-root, unwound-none, unwinds-more}
@@ -46,6 +46,18 @@ ranged-above low high n a e = let z : n ≤ high = leb-true n high (and-parts (l
 
 pub held-path : {M : Type 0} (a b : Held M) → a .is ≡ b .is → a .count ≡ b .count → a .room ≡ b .room → a ≡ b
 held-path a b e f g = λ i. record { is = e i; count = f i; room = g i }
+
+-- what an accepted record leaves, part by part
+pub record Taken {M : Type 0} (m : Measure M) (a b : Held M) (r : Record) : Type 0 where
+  pub ranged : InRange r
+  pub shallow : length (move (a .is .end) r .path) ≤ 512
+  pub fits : a .count + need (a .is) r ≤ a .room
+  pub is : b .is ≡ added m (a .is) r
+  pub count : b .count ≡ a .count + need (a .is) r
+  pub room : b .room ≡ a .room
+
+pub taken : {M : Type 0} {m : Measure M} (a b : Held M) (r : Record) → Taken m a b r → Accepts a r × (b ≡ step m a r)
+taken {M} {m} a b r t = (record { ranged = t .ranged; shallow = t .shallow; fits = t .fits }, held-path b (step m a r) (t .is) (t .count) (t .room))
 
 abbrev pub held : {M : Type 0} → Measure M → List Shape → List M → ℕ → ℕ → ℕ → Held M
 held m s v n cur room = record { is = reading m s v n cur; count = n; room = room }
@@ -82,11 +94,11 @@ module _ {M : Type 0} {m : Measure M} (laws : Laws m) (s : List Shape) (v : List
       call-need : (n′ ≡ n + need (reading m s v n cur) (Call f)) × (n + need (reading m s v n cur) (Call f) ≤ length s)
       call-need = ⊎-elim
           (λ (l : c < n).
-              let z : need (reading m s v n cur) (Call f) ≡ 0 = cond-true _ _ _ (found-there c (e .found) l) in
-              (omega arith, omega (arith, o .table .fits)))
+          let z : need (reading m s v n cur) (Call f) ≡ 0 = cond-true _ _ _ (found-there c (e .found) l) in
+          (omega arith, omega (arith, o .table .fits)))
           (λ (l : n ≤ c).
-              let z : need (reading m s v n cur) (Call f) ≡ 1 = cond-false _ _ _ (none-there laws s v n top (o .table) cur f (o .opened) (e .found .absent l)) in
-              (omega (arith, e .found .within), omega (arith, e .found .within, e .room)))
+          let z : need (reading m s v n cur) (Call f) ≡ 1 = cond-false _ _ _ (none-there laws s v n top (o .table) cur f (o .opened) (e .found .absent l)) in
+          (omega (arith, e .found .within), omega (arith, e .found .within, e .room)))
           (cases-lt c n)
 
       pub call-taken : (room room′ : ℕ) → f ≤ 65535 → room ≡ length s → room′ ≡ room → Taken m (held m s v n cur room) (held m s′ v′ n′ c room′) (Call f)
@@ -179,9 +191,9 @@ module _ {M : Type 0} (m : Measure M) (a : Held M) (k : ℕ) (low : length (a .i
   along i b c (Ok _) h w g =
       let l : length (b .is .end .path) ≡ length (a .is .end .path) - i = ap (λ (x : Summary M). length (x .end .path)) (w .is) ∙ unwound-long i (a .is .end) in
       record {
-        is = g .is ∙ ap (λ x. added m x Return) (w .is) ∙ unwinds-more m (a .is) i ∙ ap (λ j. added m (a .is) (Unwind j)) (sym (add-one i));
-        count = omega (arith, g .count, w .count, l);
-        room = g .room ∙ w .room;
+        is = ap (λ (x : Held M). x .is) (g .1) ∙ ap (λ x. added m x Return) (w .is) ∙ unwinds-more m (a .is) i ∙ ap (λ j. added m (a .is) (Unwind j)) (sym (add-one i));
+        count = omega (arith, ap (λ (x : Held M). x .count) (g .1), w .count, l);
+        room = ap (λ (x : Held M). x .room) (g .1) ∙ w .room;
       }
   along i b c (Err OutOfRange) h w g = absurd (g .1 refl)
   along i b c (Err TableSize) h w g = absurd (g .1)

@@ -1,3 +1,4 @@
 pub mod Giving
 pub mod Wholes
 pub mod Telling
+pub mod Prefixing

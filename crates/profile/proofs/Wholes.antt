@@ -32,9 +32,9 @@ complete m s v n top cur room o fits = record {
         let d : suc (length q) ≡ getD s (k .0) blank .depth = ap (λ (x : Position). length (x .path)) (k .2) ∙ depth-is s (k .0) in
         let p = up-one s n top (o .table) (k .0) (k .1) (omega arith) in
         let named : 0 < getD s (k .0) blank .function = ⊎-elim
-            (λ (z : getD s (k .0) blank .function ≡ 0). absurd (omega (arith, o .table .good (k .0) (k .1) .root z .depth)))
-            (λ (z : getD s (k .0) blank .function ≡ 0 → ⊥). omega arith)
-            (cases-eq (getD s (k .0) blank .function) 0) in
+        (λ (z : getD s (k .0) blank .function ≡ 0). absurd (omega (arith, o .table .good (k .0) (k .1) .root z .depth)))
+        (λ (z : getD s (k .0) blank .function ≡ 0 → ⊥). omega arith)
+        (cases-eq (getD s (k .0) blank .function) 0) in
         let is : at l q ≡ context s (getD s (k .0) blank .parent) = ap (λ (x : Position). at (x .level) (drop 1 (x .path))) (k .2 ∙ context-kid s n top (o .table) (k .0) (k .1) named) in
         subst (λ x. any-of (same x) (listed (m .none) s v n) ≡ true) (sym is) (any-at (m .none) s v n (getD s (k .0) blank .parent) (omega (arith, p .parent, k .1)));
     opened = any-at (m .none) s v n cur (o .opened);

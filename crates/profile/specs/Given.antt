@@ -33,14 +33,15 @@ need a Return = 1 - length (a .end .path)
 need a (Unwind n) = n - length (a .end .path)
 need a (Sample s) = 0
 
--- The record r is accepted by a, which becomes b: the summary of one record more.
-pub record Taken {M : Type 0} (m : Measure M) (a b : Held M) (r : Record) : Type 0 where
+-- one record more
+abbrev pub step : {M : Type 0} → Measure M → Held M → Record → Held M
+step m a r = record { is = added m (a .is) r; count = a .count + need (a .is) r; room = a .room }
+
+-- When a accepts r: each field is in range, no path becomes longer than 512, and the table has room.
+pub record Accepts {M : Type 0} (a : Held M) (r : Record) : Type 0 where
   pub ranged : InRange r
   pub shallow : length (move (a .is .end) r .path) ≤ 512
   pub fits : a .count + need (a .is) r ≤ a .room
-  pub is : b .is ≡ added m (a .is) r
-  pub count : b .count ≡ a .count + need (a .is) r
-  pub room : b .room ≡ a .room
 
 -- When r is rejected by a, and how: a field is out of range, else the path is too long, else the table too small.
 abbrev pub Refuses : {M : Type 0} → Held M → Record → Rejection → Type 0
@@ -51,7 +52,7 @@ Refuses a r TooFewRows = InRange r × (length (move (a .is .end) r .path) ≤ 51
 
 -- Call, return, unwind and sample: one record more, or a rejection that leaves a as it was.
 abbrev pub Given : {M : Type 0} → Measure M → Held M → Held M → Record → Result (Unit {0}) Rejection → Type 0
-Given m a b r (Ok _) = Taken m a b r
+Given m a b r (Ok _) = Accepts a r × (b ≡ step m a r)
 Given m a b r (Err e) = (b ≡ a) × Refuses a r e
 
 -- What holds of every summary in its table: each row's context is there once, the open path has its row, and with each path

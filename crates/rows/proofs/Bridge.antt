@@ -38,8 +38,12 @@ module _ {M : Type 0} {m : Measure M} (laws : Laws m) (s : List Shape) (v : List
   -- a row that is there
   pub gains-old : (c : ℕ) → c < n → Gains m s s v v n n top top c (context s c)
   gains-old c h = record {
-    table = t; more = omega arith; inside = h; is = refl;
-    shapes = λ k l. refl; values = λ k l. refl;
+    table = t;
+    more = omega arith;
+    inside = h;
+    is = refl;
+    shapes = λ k l. refl;
+    values = λ k l. refl;
     row = any-known (m .none) s v n c h;
     value = λ x. refl;
   }
@@ -53,8 +57,12 @@ module _ {M : Type 0} {m : Measure M} (laws : Laws m) (s : List Shape) (v : List
       let b : (k : ℕ) → k < n → getD v′ k (m .none) ≡ getD v k (m .none) = (λ k h. getD-set-other v n k (m .none) (m .none) (omega arith)) in
       let l = listed-same (m .none) s s′ v v′ n (context-alike s n top t s′ a) b in
       record {
-        table = t′; more = omega arith; inside = omega arith; is = refl;
-        shapes = a; values = b;
+        table = t′;
+        more = omega arith;
+        inside = omega arith;
+        is = refl;
+        shapes = a;
+        values = b;
         row = λ x. ap (λ k. any-of (same x) (listed (m .none) s′ v′ k)) (add-one n) ∙ ap (λ r. same x (context s′ n) || any-of (same x) r) l ∙ or-comm (same x (context s′ n)) (any-of (same x) (listed (m .none) s v n));
         value = λ x. ap (λ k. joins m (same x) (listed (m .none) s′ v′ k)) (add-one n) ∙ joins-unit laws s′ v′ n x (getD-set-same v n (m .none) (m .none) room) ∙ ap (joins m (same x)) l;
       }
@@ -63,28 +71,28 @@ module _ {M : Type 0} {m : Measure M} (laws : Laws m) (s : List Shape) (v : List
   pub gains-reached : (s′ : List Shape) (v′ : List M) (up f c : ℕ) → up < n → 0 < f → length v ≡ length s → Reached (m .none) s s′ v v′ n up f c → Gains m s s′ v v′ n (max n (c + 1)) top top c (at (context s up .level) (f ∷ context s up .path))
   gains-reached s′ v′ up f c below named lv r = ⊎-elim
       (λ (l : c < n).
-          let es : s′ ≡ s = r .shapes ∙ cond-true _ _ _ (lt-ltb c n l) in
-          let ev : v′ ≡ v = r .values ∙ cond-true _ _ _ (lt-ltb c n l) in
-          let em : max n (c + 1) ≡ n = omega arith in
-          let pa = r .found .is-parent l in
-          let fn = r .found .is-function l in
-          let is : context s c ≡ at (context s up .level) (f ∷ context s up .path) = context-kid s n top t c l (omega (arith, fn)) ∙ ap₂ (λ p g. at (context s p .level) (g ∷ context s p .path)) pa fn in
-          rw (es, ev, em, ← is) (gains-old c l))
+      let es : s′ ≡ s = r .shapes ∙ cond-true _ _ _ (lt-ltb c n l) in
+      let ev : v′ ≡ v = r .values ∙ cond-true _ _ _ (lt-ltb c n l) in
+      let em : max n (c + 1) ≡ n = omega arith in
+      let pa = r .found .is-parent l in
+      let fn = r .found .is-function l in
+      let is : context s c ≡ at (context s up .level) (f ∷ context s up .path) = context-kid s n top t c l (omega (arith, fn)) ∙ ap₂ (λ p g. at (context s p .level) (g ∷ context s p .path)) pa fn in
+      rw (es, ev, em, ← is) (gains-old c l))
       (λ (l : n ≤ c).
-          let ec : c ≡ n = omega (arith, r .found .within) in
-          let es : s′ ≡ set s n (kid s up f) = r .shapes ∙ cond-false _ _ _ (le-ltb c n l) in
-          let ev : v′ ≡ set v n (m .none) = r .values ∙ cond-false _ _ _ (le-ltb c n l) in
-          let em : max n (c + 1) ≡ n + 1 = omega arith in
-          let room : n < length s = omega (arith, r .room) in
-          let t′ = table-kid s n top up f t room below named (r .shallow) (r .found .absent l) in
-          let g = gains-new top (kid s up f) (omega arith) t′ in
-          let w : getD (set s n (kid s up f)) n blank ≡ kid s up f = getD-set-same s n (kid s up f) blank room in
-          let nm : 0 < getD (set s n (kid s up f)) n blank .function = rw w named in
-          let is : context (set s n (kid s up f)) n ≡ at (context s up .level) (f ∷ context s up .path) =
-              context-kid (set s n (kid s up f)) (n + 1) top t′ n (omega arith) nm
-              ∙ ap (λ (x : Shape). at (context (set s n (kid s up f)) (x .parent) .level) (x .function ∷ context (set s n (kid s up f)) (x .parent) .path)) w
-              ∙ ap (λ (x : Position). at (x .level) (f ∷ x .path)) (context-alike s n top t (set s n (kid s up f)) (put-alike s n (kid s up f)) up below) in
-          rw (es, ev, em, ec, ← is) g)
+      let ec : c ≡ n = omega (arith, r .found .within) in
+      let es : s′ ≡ set s n (kid s up f) = r .shapes ∙ cond-false _ _ _ (le-ltb c n l) in
+      let ev : v′ ≡ set v n (m .none) = r .values ∙ cond-false _ _ _ (le-ltb c n l) in
+      let em : max n (c + 1) ≡ n + 1 = omega arith in
+      let room : n < length s = omega (arith, r .room) in
+      let t′ = table-kid s n top up f t room below named (r .shallow) (r .found .absent l) in
+      let g = gains-new top (kid s up f) (omega arith) t′ in
+      let w : getD (set s n (kid s up f)) n blank ≡ kid s up f = getD-set-same s n (kid s up f) blank room in
+      let nm : 0 < getD (set s n (kid s up f)) n blank .function = rw w named in
+      let is : context (set s n (kid s up f)) n ≡ at (context s up .level) (f ∷ context s up .path) =
+      context-kid (set s n (kid s up f)) (n + 1) top t′ n (omega arith) nm
+      ∙ ap (λ (x : Shape). at (context (set s n (kid s up f)) (x .parent) .level) (x .function ∷ context (set s n (kid s up f)) (x .parent) .path)) w
+      ∙ ap (λ (x : Position). at (x .level) (f ∷ x .path)) (context-alike s n top t (set s n (kid s up f)) (put-alike s n (kid s up f)) up below) in
+      rw (es, ev, em, ec, ← is) g)
       (cases-lt c n)
 
   -- the root row of a new level
@@ -101,19 +109,19 @@ module _ {M : Type 0} {m : Measure M} (laws : Laws m) (s : List Shape) (v : List
   pub none-there : (up f : ℕ) → up < n → ((k : ℕ) → k < n → getD s k blank .parent ≡ up → getD s k blank .function ≡ f → ⊥) → any-of (same (at (context s up .level) (f ∷ context s up .path))) (listed (m .none) s v n) ≡ false
   none-there up f below absent = ⊎-elim
       (λ e.
-          let y : Position = at (context s up .level) (f ∷ context s up .path) in
-          let k = any-is (m .none) s v n y e in
-          let d : getD s (k .0) blank .depth ≡ suc (length (context s up .path)) = sym (depth-is s (k .0)) ∙ sym (ap (λ (x : Position). length (x .path)) (k .2)) in
-          let q = up-one s n top t (k .0) (k .1) (omega arith) in
-          let named : 0 < getD s (k .0) blank .function = ⊎-elim
-              (λ (z : getD s (k .0) blank .function ≡ 0). absurd (omega (arith, t .good (k .0) (k .1) .root z .depth)))
-              (λ (z : getD s (k .0) blank .function ≡ 0 → ⊥). omega arith)
-              (cases-eq (getD s (k .0) blank .function) 0) in
-          let is : y ≡ at (context s (getD s (k .0) blank .parent) .level) (getD s (k .0) blank .function ∷ context s (getD s (k .0) blank .parent) .path) = k .2 ∙ context-kid s n top t (k .0) (k .1) named in
-          let fn : f ≡ getD s (k .0) blank .function = cc (ap (λ (x : Position). x .path) is) in
-          let pt : context s up .path ≡ context s (getD s (k .0) blank .parent) .path = cc (ap (λ (x : Position). x .path) is) in
-          let pa : up ≡ getD s (k .0) blank .parent = contexts-apart s n top t up (getD s (k .0) blank .parent) below (omega (arith, q .parent, k .1)) (ap₂ at (ap (λ (x : Position). x .level) is) pt) in
-          absurd (absent (k .0) (k .1) (sym pa) (sym fn)))
+      let y : Position = at (context s up .level) (f ∷ context s up .path) in
+      let k = any-is (m .none) s v n y e in
+      let d : getD s (k .0) blank .depth ≡ suc (length (context s up .path)) = sym (depth-is s (k .0)) ∙ sym (ap (λ (x : Position). length (x .path)) (k .2)) in
+      let q = up-one s n top t (k .0) (k .1) (omega arith) in
+      let named : 0 < getD s (k .0) blank .function = ⊎-elim
+      (λ (z : getD s (k .0) blank .function ≡ 0). absurd (omega (arith, t .good (k .0) (k .1) .root z .depth)))
+      (λ (z : getD s (k .0) blank .function ≡ 0 → ⊥). omega arith)
+      (cases-eq (getD s (k .0) blank .function) 0) in
+      let is : y ≡ at (context s (getD s (k .0) blank .parent) .level) (getD s (k .0) blank .function ∷ context s (getD s (k .0) blank .parent) .path) = k .2 ∙ context-kid s n top t (k .0) (k .1) named in
+      let fn : f ≡ getD s (k .0) blank .function = cc (ap (λ (x : Position). x .path) is) in
+      let pt : context s up .path ≡ context s (getD s (k .0) blank .parent) .path = cc (ap (λ (x : Position). x .path) is) in
+      let pa : up ≡ getD s (k .0) blank .parent = contexts-apart s n top t up (getD s (k .0) blank .parent) below (omega (arith, q .parent, k .1)) (ap₂ at (ap (λ (x : Position). x .level) is) pt) in
+      absurd (absent (k .0) (k .1) (sym pa) (sym fn)))
       (λ e. e)
       (cases-bool (any-of (same (at (context s up .level) (f ∷ context s up .path))) (listed (m .none) s v n)))
 
@@ -129,23 +137,23 @@ module _ {M : Type 0} {m : Measure M} (laws : Laws m) (s : List Shape) (v v′ :
 pub rooted-suc : (p : ℕ) (x : Position) → rooted (suc p) x ≡ (rooted p x || same x (at (suc p) []))
 rooted-suc p x = alike _ _
     (λ t. let both = rooted-parts (suc p) x t in let low = both .1 in
-        ⊎-elim
-        (λ (l : x .level < suc p). or-left _ _ (rooted-from p x (both .0) (omega arith)))
-        (λ (l : suc p ≤ x .level).
-            let is : x ≡ at (suc p) [] = ap₂ at {x = x .level} {y = suc p} (omega arith) (both .0) in
-            or-right (rooted p x) _ (subst (λ z. same z (at (suc p) []) ≡ true) (sym is) (same-refl (at (suc p) []))))
-        (cases-lt (x .level) (suc p)))
+    ⊎-elim
+    (λ (l : x .level < suc p). or-left _ _ (rooted-from p x (both .0) (omega arith)))
+    (λ (l : suc p ≤ x .level).
+    let is : x ≡ at (suc p) [] = ap₂ at {x = x .level} {y = suc p} (omega arith) (both .0) in
+    or-right (rooted p x) _ (subst (λ z. same z (at (suc p) []) ≡ true) (sym is) (same-refl (at (suc p) []))))
+    (cases-lt (x .level) (suc p)))
     (λ t. ⊎-elim
-        (λ r. let both = rooted-parts p x r in let low = both .1 in rooted-from (suc p) x (both .0) (omega arith))
-        (λ r. let is = same-true x (at (suc p) []) r in let l = ap (λ (z : Position). z .level) is in rooted-from (suc p) x (ap (λ (z : Position). z .path) is) (omega arith))
-        (or-cases _ _ t))
+    (λ r. let both = rooted-parts p x r in let low = both .1 in rooted-from (suc p) x (both .0) (omega arith))
+    (λ r. let is = same-true x (at (suc p) []) r in let l = ap (λ (z : Position). z .level) is in rooted-from (suc p) x (ap (λ (z : Position). z .path) is) (omega arith))
+    (or-cases _ _ t))
 
 pub rooted-rise : (l p : ℕ) (x : Position) (b : Bool) → l ≤ p → ((b || rooted l x) || rooted p x) ≡ (b || rooted p x)
 rooted-rise l p x b h = alike _ _
     (λ t. ⊎-elim
-        (λ r. ⊎-elim (or-left _ _) (λ q. let both = rooted-parts l x q in let low = both .1 in or-right b _ (rooted-from p x (both .0) (omega arith))) (or-cases b (rooted l x) r))
-        (or-right b _)
-        (or-cases (b || rooted l x) (rooted p x) t))
+    (λ r. ⊎-elim (or-left _ _) (λ q. let both = rooted-parts l x q in let low = both .1 in or-right b _ (rooted-from p x (both .0) (omega arith))) (or-cases b (rooted l x) r))
+    (or-right b _)
+    (or-cases (b || rooted l x) (rooted p x) t))
     (λ t. ⊎-elim (λ r. or-left _ _ (or-left _ _ r)) (or-right (b || rooted l x) _) (or-cases b (rooted p x) t))
 
 pub unwound-last : (n : ℕ) (p : Position) → unwound (suc n) p ≡ returned (unwound n p .level) (unwound n p .path)
@@ -162,8 +170,8 @@ pub rooted-zero : (x : Position) → same x (at 0 []) ≡ rooted 0 x
 rooted-zero x = alike _ _
     (λ t. let is = same-true x (at 0 []) t in let l = ap (λ (z : Position). z .level) is in rooted-from 0 x (ap (λ (z : Position). z .path) is) (omega arith))
     (λ t. let both = rooted-parts 0 x t in let low = both .1 in
-        let is : x ≡ at 0 [] = ap₂ at {x = x .level} {y = 0} (omega arith) (both .0) in
-        subst (λ z. same z (at 0 []) ≡ true) (sym is) (same-refl (at 0 [])))
+    let is : x ≡ at 0 [] = ap₂ at {x = x .level} {y = 0} (omega arith) (both .0) in
+    subst (λ z. same z (at 0 []) ≡ true) (sym is) (same-refl (at 0 [])))
 
 -- the first row alone
 pub reading-new : {M : Type 0} {m : Measure M} → Laws m → (s : List Shape) (v : List M) → getD s 0 blank ≡ blank → getD v 0 (m .none) ≡ m .none → reading m s v 1 0 ≡ summary m []
@@ -203,10 +211,10 @@ module _ {M : Type 0} {m : Measure M} (laws : Laws m) (s : List Shape) (v : List
       let up : at (top + 1) [] ≡ at (suc top) [] = ap (λ l. at l []) (add-one top) in
       summary-path _ _ (g .is ∙ up ∙ sym mv)
       (λ x. g .row x ∙ ap (λ y. any-of (same x) (listed (m .none) s v n) || same x y) up
-          ∙ ap (λ b. b || same x (at (suc top) [])) (level-rows top refl x)
-          ∙ or-assoc (any-of (same x) (listed (m .none) s v n)) (rooted top x) (same x (at (suc top) []))
-          ∙ ap (λ b. any-of (same x) (listed (m .none) s v n) || b) (sym (rooted-suc top x))
-          ∙ ap (λ (p : Position). any-of (same x) (listed (m .none) s v n) || rooted (p .level) x) (sym mv))
+      ∙ ap (λ b. b || same x (at (suc top) [])) (level-rows top refl x)
+      ∙ or-assoc (any-of (same x) (listed (m .none) s v n)) (rooted top x) (same x (at (suc top) []))
+      ∙ ap (λ b. any-of (same x) (listed (m .none) s v n) || b) (sym (rooted-suc top x))
+      ∙ ap (λ (p : Position). any-of (same x) (listed (m .none) s v n) || rooted (p .level) x) (sym mv))
       (λ x. g .value x)
 
   pub unwound-none : reading m s v n cur ≡ added m (reading m s v n cur) (Unwind 0)

@@ -35,8 +35,8 @@ newest-bound s h zero j l e = absurd (omega arith)
 newest-bound s h (suc n) j l e = ⊎-elim
     (λ (z : place-of s n ≡ h). omega (arith, newest-here s h n z))
     (λ (z : place-of s n ≡ h → ⊥).
-        let ne : j < n = ⊎-elim (λ (q : j ≡ n). absurd (z (sym (ap (place-of s) q) ∙ e))) (λ (q : j ≡ n → ⊥). omega arith) (cases-eq j n) in
-        omega (arith, newest-other s h n z, newest-bound s h n j ne e))
+    let ne : j < n = ⊎-elim (λ (q : j ≡ n). absurd (z (sym (ap (place-of s) q) ∙ e))) (λ (q : j ≡ n → ⊥). omega arith) (cases-eq j n) in
+    omega (arith, newest-other s h n z, newest-bound s h n j ne e))
     (cases-eq (place-of s n) h)
 
 -- and is of that place

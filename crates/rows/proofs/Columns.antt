@@ -105,13 +105,13 @@ module _ (s : List Shape) (n : ℕ) (t : Table s n 0) where
       ⊎-elim
       (λ (l : j < r). holder-low r (suc d) j l ∙ sym (ap (λ x. cond (eqb x r) (getD s r blank .parent) x) (holder-low (suc r) (suc d) j (omega arith)) ∙ cond-false _ _ _ (ne-eqb j r (λ (y : j ≡ r). omega arith))))
       (λ (l : r ≤ j). ⊎-elim
-          (λ (y : j ≡ r).
-              holder-high r d j l ∙ holder-low r d (getD s j blank .parent) (omega (arith, q .parent)) ∙ ap (λ k. getD s k blank .parent) y
-              ∙ sym (ap (λ x. cond (eqb x r) (getD s r blank .parent) x) (holder-low (suc r) (suc d) j (omega arith)) ∙ cond-true _ _ _ (eq-eqb j r y)))
-          (λ (y : j ≡ r → ⊥).
-              holder-high r d j l ∙ holder-step r pos hr d (getD s j blank .parent) (omega (arith, q .parent)) (omega (arith, q .depth))
-              ∙ sym (ap (λ x. cond (eqb x r) (getD s r blank .parent) x) (holder-high (suc r) d j (omega arith))))
-          (cases-eq j r))
+      (λ (y : j ≡ r).
+      holder-high r d j l ∙ holder-low r d (getD s j blank .parent) (omega (arith, q .parent)) ∙ ap (λ k. getD s k blank .parent) y
+      ∙ sym (ap (λ x. cond (eqb x r) (getD s r blank .parent) x) (holder-low (suc r) (suc d) j (omega arith)) ∙ cond-true _ _ _ (eq-eqb j r y)))
+      (λ (y : j ≡ r → ⊥).
+      holder-high r d j l ∙ holder-step r pos hr d (getD s j blank .parent) (omega (arith, q .parent)) (omega (arith, q .depth))
+      ∙ sym (ap (λ x. cond (eqb x r) (getD s r blank .parent) x) (holder-high (suc r) d j (omega arith))))
+      (cases-eq j r))
       (cases-lt j r)
 
   begins-self : (q : Path) → begins q q ≡ true
@@ -125,10 +125,10 @@ module _ (s : List Shape) (n : ℕ) (t : Table s n 0) where
       ⊎-elim
       (λ (l : j < suc r). subst (λ k. begins (context s k .path) (context s j .path) ≡ true) (sym (holder-low (suc r) (suc d) j l) ∙ y) (begins-self (context s j .path)))
       (λ (l : suc r ≤ j).
-          let p = getD s j blank .parent in
-          let b = begins-up r d p (omega (arith, q .parent)) (omega (arith, q .depth)) (sym (holder-high (suc r) d j l) ∙ y) in
-          ap (λ (x : Position). begins (context s r .path) (x .path)) (context-kid s n 0 t j h f)
-          ∙ begins-more (context s r .path) (context s p .path) (getD s j blank .function) (begins-is (context s r .path) (context s p .path) b .1) ∙ b)
+      let p = getD s j blank .parent in
+      let b = begins-up r d p (omega (arith, q .parent)) (omega (arith, q .depth)) (sym (holder-high (suc r) d j l) ∙ y) in
+      ap (λ (x : Position). begins (context s r .path) (x .path)) (context-kid s n 0 t j h f)
+      ∙ begins-more (context s r .path) (context s p .path) (getD s j blank .function) (begins-is (context s r .path) (context s p .path) b .1) ∙ b)
       (cases-lt j (suc r))
 
   differ : (r j : ℕ) → r < n → j < n → (j ≡ r → ⊥) → begins (context s r .path) (context s j .path) ≡ true → length (context s r .path) < length (context s j .path)
@@ -137,9 +137,9 @@ module _ (s : List Shape) (n : ℕ) (t : Table s n 0) where
       ⊎-elim
       (λ (l : length (context s r .path) < length (context s j .path)). l)
       (λ (l : length (context s j .path) ≤ length (context s r .path)).
-          let p : context s r .path ≡ context s j .path = w .0 ∙ ap (λ k. drop k (context s j .path)) {x = length (context s j .path) - length (context s r .path)} {y = 0} (omega arith) in
-          let lv : getD s r blank .level ≡ getD s j blank .level = omega (arith, level-low s n 0 t r hr, level-low s n 0 t j h) in
-          absurd (ne (sym (contexts-apart s n 0 t r j hr h (ap₂ at lv p)))))
+      let p : context s r .path ≡ context s j .path = w .0 ∙ ap (λ k. drop k (context s j .path)) {x = length (context s j .path) - length (context s r .path)} {y = 0} (omega arith) in
+      let lv : getD s r blank .level ≡ getD s j blank .level = omega (arith, level-low s n 0 t r hr, level-low s n 0 t j h) in
+      absurd (ne (sym (contexts-apart s n 0 t r j hr h (ap₂ at lv p)))))
       (cases-lt (length (context s r .path)) (length (context s j .path)))
 
   begins-down : (r d j : ℕ) → r < n → j < n → getD s j blank .depth ≡ d → begins (context s r .path) (context s j .path) ≡ true → holder s (suc r) d j ≡ r
@@ -151,14 +151,14 @@ module _ (s : List Shape) (n : ℕ) (t : Table s n 0) where
       ⊎-elim
       (λ (y : j ≡ r). holder-low (suc r) (suc d) j (omega arith) ∙ y)
       (λ (y : j ≡ r → ⊥).
-          let l = differ r j hr h y b in
-          let lp : length (context s r .path) ≤ length (context s p .path) = omega (arith, l, depth-is s j, depth-is s p, q .depth) in
-          let b′ : begins (context s r .path) (context s p .path) ≡ true = sym (begins-more (context s r .path) (context s p .path) (getD s j blank .function) lp) ∙ sym (ap (λ (x : Position). begins (context s r .path) (x .path)) (context-kid s n 0 t j h f)) ∙ b in
-          let i = begins-down r d p hr (omega (arith, q .parent)) (omega (arith, q .depth)) b′ in
-          ⊎-elim
-          (λ (z : j < suc r). absurd (omega (arith, i, holder-low (suc r) d p (omega (arith, q .parent)), q .parent)))
-          (λ (z : suc r ≤ j). holder-high (suc r) d j z ∙ i)
-          (cases-lt j (suc r)))
+      let l = differ r j hr h y b in
+      let lp : length (context s r .path) ≤ length (context s p .path) = omega (arith, l, depth-is s j, depth-is s p, q .depth) in
+      let b′ : begins (context s r .path) (context s p .path) ≡ true = sym (begins-more (context s r .path) (context s p .path) (getD s j blank .function) lp) ∙ sym (ap (λ (x : Position). begins (context s r .path) (x .path)) (context-kid s n 0 t j h f)) ∙ b in
+      let i = begins-down r d p hr (omega (arith, q .parent)) (omega (arith, q .depth)) b′ in
+      ⊎-elim
+      (λ (z : j < suc r). absurd (omega (arith, i, holder-low (suc r) d p (omega (arith, q .parent)), q .parent)))
+      (λ (z : suc r ≤ j). holder-high (suc r) d j z ∙ i)
+      (cases-lt j (suc r)))
       (cases-eq j r)
 
   stands-begins : (r j : ℕ) → r < n → j < n → stands s (suc r) r j ≡ begins (context s r .path) (context s j .path)
@@ -189,16 +189,16 @@ module _ (s : List Shape) (n : ℕ) (t : Table s n 0) where
           long = subst (λ (c : List M). n ≤ length c) (sym e) (omega (arith, length-set col p w, x .long));
           below = λ k h l. ap (λ c. getD c k (m .none)) e ∙ ⊎-elim
               (λ (y : k ≡ p).
-                  subst (λ j. getD (set col p w) j (m .none) ≡ joins m (stands s r j) (numbered (m .none) v n)) (sym y)
-                  (getD-set-same col p w (m .none) (omega (arith, x .long))
-                  ∙ ap₂ (m .join) (x .below p (omega arith) (omega arith)) (x .below r hr (omega arith))
-                  ∙ sym (joins-two laws v n (stands s r p) (stands s (suc r) p) (stands s (suc r) r)
-                      (λ j hj. ap (λ z. eqb z p) (step j hj) ∙ meet (holder s (suc r) (getD s j blank .depth) j) p r)
-                      (λ j hj. apart-at (holder s (suc r) (getD s j blank .depth) j) p r lp))))
+              subst (λ j. getD (set col p w) j (m .none) ≡ joins m (stands s r j) (numbered (m .none) v n)) (sym y)
+              (getD-set-same col p w (m .none) (omega (arith, x .long))
+              ∙ ap₂ (m .join) (x .below p (omega arith) (omega arith)) (x .below r hr (omega arith))
+              ∙ sym (joins-two laws v n (stands s r p) (stands s (suc r) p) (stands s (suc r) r)
+              (λ j hj. ap (λ z. eqb z p) (step j hj) ∙ meet (holder s (suc r) (getD s j blank .depth) j) p r)
+              (λ j hj. apart-at (holder s (suc r) (getD s j blank .depth) j) p r lp))))
               (λ (y : k ≡ p → ⊥).
-                  getD-set-other col p k w (m .none) y
-                  ∙ x .below k h (omega arith)
-                  ∙ joins-same m v n _ _ (λ j hj. sym (ap (λ z. eqb z k) (step j hj) ∙ miss (holder s (suc r) (getD s j blank .depth) j) p r k y l)))
+              getD-set-other col p k w (m .none) y
+              ∙ x .below k h (omega arith)
+              ∙ joins-same m v n _ _ (λ j hj. sym (ap (λ z. eqb z k) (step j hj) ∙ miss (holder s (suc r) (getD s j blank .depth) j) p r k y l)))
               (cases-eq k p);
           above = λ k h l. ap (λ c. getD c k (m .none)) e ∙ getD-set-other col p k w (m .none) (λ (z : k ≡ p). omega arith) ∙ ⊎-elim
               (λ (y : k ≡ r). subst (λ j. getD col j (m .none) ≡ inclusive-of m s v n j) (sym y) (x .below r hr (omega arith) ∙ stands-inclusive r hr))

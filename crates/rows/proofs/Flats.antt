@@ -102,14 +102,16 @@ module _ {M : Type 0} {m : Measure M} (laws : Laws m) (s : List Shape) (v : List
       let q = t .good 0 (some s n top t) in
       let r = q .root fr in
       record {
-        some = omega arith; high = omega arith;
+        some = omega arith;
+        high = omega arith;
         table = record {
           fits = omega (arith, t .fits, some s n top t);
           good = λ k h. let z : 0 ≡ k = omega arith in subst (λ j. Good s j) z q;
           apart = λ j k a b _ _ _. omega arith;
           levels = roots-root s 0 fr;
         };
-        rest = λ k h. refl; values = λ k h. refl;
+        rest = λ k h. refl;
+        values = λ k h. refl;
         marked = λ k h. let z : 0 ≡ k = omega arith in subst (λ j. (getD marks j 0 < 1) × (context s (getD marks j 0) ≡ flat (context s j))) z (omega arith, ap (context s) e ∙ fc ∙ sym (ap flat fc));
         row = λ x. ap (λ y. same x y || false) (fc ∙ sym (ap flat fc));
         value = λ x. ap (λ y. cond (same x y) (m .join (getD v 0 (m .none)) (m .none)) (m .none)) (fc ∙ sym (ap flat fc));
@@ -124,11 +126,11 @@ module _ {M : Type 0} {m : Measure M} (laws : Laws m) (s : List Shape) (v : List
     target = ap (λ (r : Shape). seat-target s′ marks (r .function) (r .parent)) here ∙ ⊎-elim
         (λ (z : getD s i blank .function ≡ 0). cond-true _ _ _ (eq-eqb (getD s i blank .function) 0 z) ∙ sym (ap flat (context-root s n top t i h z)))
         (λ (z : getD s i blank .function ≡ 0 → ⊥).
-            let f : 0 < getD s i blank .function = omega arith in
-            let k = t .good i h .kid f in
-            cond-false _ _ _ (ne-eqb (getD s i blank .function) 0 z)
-            ∙ ap (λ (y : Position). at (y .level) (getD s i blank .function ∷ y .path)) (x .marked (getD s i blank .parent) (k .parent) .1)
-            ∙ sym (ap flat (context-kid s n top t i h f)))
+        let f : 0 < getD s i blank .function = omega arith in
+        let k = t .good i h .kid f in
+        cond-false _ _ _ (ne-eqb (getD s i blank .function) 0 z)
+        ∙ ap (λ (y : Position). at (y .level) (getD s i blank .function ∷ y .path)) (x .marked (getD s i blank .parent) (k .parent) .1)
+        ∙ sym (ap flat (context-kid s n top t i h f)))
         (cases-eq (getD s i blank .function) 0)
 
     pub flat-ready : Ready s′ marks c i
@@ -136,7 +138,9 @@ module _ {M : Type 0} {m : Measure M} (laws : Laws m) (s : List Shape) (v : List
         let hf = ap (λ (r : Shape). r .function) here in
         let hp = ap (λ (r : Shape). r .parent) here in
         record {
-          some = x .some; high = x .high; table = x .table;
+          some = x .some;
+          high = x .high;
+          table = x .table;
           lower = λ f. omega (arith, hp, t .good i h .kid (omega (arith, hf)) .parent);
           marked = λ f. subst (λ p. getD marks p 0 < c) (sym hp) (x .marked (getD s i blank .parent) (t .good i h .kid (omega (arith, hf)) .parent) .0);
           shallow = λ f.
@@ -171,10 +175,10 @@ module _ {M : Type 0} {m : Measure M} (laws : Laws m) (s : List Shape) (v : List
           marked = subst (λ (ms : List ℕ). (k : ℕ) → k < i + 1 → (getD ms k 0 < c′) × (context s″ (getD ms k 0) ≡ flat (context s k))) (sym (q .noted))
               (below-more _ _
               (λ k l.
-                  let ne : k ≢ i = omega arith in
-                  let e : getD (set marks i r) k 0 ≡ getD marks k 0 = getD-set-other marks i k r 0 ne in
-                  let p = x .marked k l in
-                  subst (λ j. (j < c′) × (context s″ j ≡ flat (context s k))) (sym e) (omega (arith, p .0), old (getD marks k 0) (p .0) ∙ p .1))
+              let ne : k ≢ i = omega arith in
+              let e : getD (set marks i r) k 0 ≡ getD marks k 0 = getD-set-other marks i k r 0 ne in
+              let p = x .marked k l in
+              subst (λ j. (j < c′) × (context s″ j ≡ flat (context s k))) (sym e) (omega (arith, p .0), old (getD marks k 0) (p .0) ∙ p .1))
               (subst (λ j. (j < c′) × (context s″ j ≡ flat (context s i))) (sym (getD-set-same marks i r 0 im)) (g .inside, is)));
           row = λ y.
               any-values (m .none) s″ v″ v₂ c′ (same y) ∙ g .row y

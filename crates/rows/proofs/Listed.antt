@@ -34,9 +34,9 @@ contexts-once s n top t (suc k) h = and-from _ _ (not-from-false _ absent) (cont
     absent : among (contexts s k) (context s k) ≡ false
     absent = ⊎-elim
         (λ e.
-            let j = any-is {M = ℕ} 0 s [] k (context s k) (sym (among-listed {M = ℕ} 0 s [] k (context s k)) ∙ e) in
-            let same-row : k ≡ j .0 = contexts-apart s n top t k (j .0) (omega arith) (omega (arith, j .1)) (j .2) in
-            absurd (omega (arith, j .1)))
+        let j = any-is {M = ℕ} 0 s [] k (context s k) (sym (among-listed {M = ℕ} 0 s [] k (context s k)) ∙ e) in
+        let same-row : k ≡ j .0 = contexts-apart s n top t k (j .0) (omega arith) (omega (arith, j .1)) (j .2) in
+        absurd (omega (arith, j .1)))
         (λ e. e)
         (cases-bool (among (contexts s k) (context s k)))
 
@@ -57,8 +57,8 @@ module _ {M : Type 0} {m : Measure M} (laws : Laws m) (s : List Shape) (v : List
   joins-own k zero hk h = absurd (omega arith)
   joins-own k (suc i) hk h = ⊎-elim
       (λ (e : k ≡ i).
-          cond-true _ _ _ (subst (λ j. same (context s k) (context s j) ≡ true) e (same-refl (context s k)))
-          ∙ ap (m .join (getD v i (m .none))) (joins-before k i (omega arith) (omega arith))
-          ∙ unit-right laws (getD v i (m .none)) ∙ ap (λ j. getD v j (m .none)) (sym e))
+      cond-true _ _ _ (subst (λ j. same (context s k) (context s j) ≡ true) e (same-refl (context s k)))
+      ∙ ap (m .join (getD v i (m .none))) (joins-before k i (omega arith) (omega arith))
+      ∙ unit-right laws (getD v i (m .none)) ∙ ap (λ j. getD v j (m .none)) (sym e))
       (λ (ne : k ≡ i → ⊥). cond-false _ _ _ (other k i (omega arith) (omega arith) ne) ∙ joins-own k i (omega arith) (omega arith))
       (cases-eq k i)

@@ -50,9 +50,9 @@ module _ (s : List Shape) (n top : ℕ) (t : Table s n top) where
       let lk = t .good k hk .root fk .level in
       ⊎-elim (λ (e : j ≡ k). e)
       (λ (ne : j ≡ k → ⊥). ⊎-elim
-          (λ (b : j < k). absurd (omega (arith, roots-rise s k j b fj)))
-          (λ (b : k ≤ j). let b′ : k < j = omega arith in absurd (omega (arith, roots-rise s j k b′ fk)))
-          (cases-lt j k))
+      (λ (b : j < k). absurd (omega (arith, roots-rise s k j b fj)))
+      (λ (b : k ≤ j). let b′ : k < j = omega arith in absurd (omega (arith, roots-rise s j k b′ fk)))
+      (cases-lt j k))
       (cases-eq j k)
   apart-by (suc d) j k hj hk dj dk l p =
       let qj = up-one s n top t j hj (omega arith) in
@@ -60,9 +60,9 @@ module _ (s : List Shape) (n top : ℕ) (t : Table s n top) where
       let f : getD s j blank .function ≡ getD s k blank .function = cc in
       let r : trail s d (getD s j blank .parent) ≡ trail s d (getD s k blank .parent) = cc in
       let named : 0 < getD s j blank .function = ⊎-elim
-          (λ (z : getD s j blank .function ≡ 0). absurd (omega (arith, t .good j hj .root z .depth)))
-          (λ (z : getD s j blank .function ≡ 0 → ⊥). omega arith)
-          (cases-eq (getD s j blank .function) 0) in
+      (λ (z : getD s j blank .function ≡ 0). absurd (omega (arith, t .good j hj .root z .depth)))
+      (λ (z : getD s j blank .function ≡ 0 → ⊥). omega arith)
+      (cases-eq (getD s j blank .function) 0) in
       t .apart j k hj hk named f
       (apart-by d (getD s j blank .parent) (getD s k blank .parent) (omega (arith, qj .parent)) (omega (arith, qk .parent)) (omega (arith, qj .depth)) (omega (arith, qk .depth)) (sym (qj .level) ∙ l ∙ qk .level) r)
 
@@ -116,10 +116,10 @@ pub any-rooted : {M : Type 0} (none : M) (s : List Shape) (v : List M) (n top : 
 any-rooted none s v n top t x = alike _ _ (or-left _ _)
     (λ e. ⊎-elim (λ y. y)
     (λ y. let both = rooted-parts top x y in
-        let low = both .1 in
-        let r = root-of s n (x .level) (omega (arith, t .levels)) in
-        let is : x ≡ context s (r .0) = ap₂ at {x = x .level} {y = roots s (r .0)} (sym (r .3)) (both .0) ∙ sym (context-root s n top t (r .0) (r .1) (r .2)) in
-        subst (λ z. any-of (same z) (listed none s v n) ≡ true) (sym is) (any-at none s v n (r .0) (r .1)))
+    let low = both .1 in
+    let r = root-of s n (x .level) (omega (arith, t .levels)) in
+    let is : x ≡ context s (r .0) = ap₂ at {x = x .level} {y = roots s (r .0)} (sym (r .3)) (both .0) ∙ sym (context-root s n top t (r .0) (r .1) (r .2)) in
+    subst (λ z. any-of (same z) (listed none s v n) ≡ true) (sym is) (any-at none s v n (r .0) (r .1)))
     (or-cases _ _ e))
 
 -- ---- values
@@ -137,16 +137,16 @@ module _ {M : Type 0} {m : Measure M} (laws : Laws m) where
   joins-book s v zero c w x h l = absurd (omega arith)
   joins-book s v (suc n) c w x h l = ⊎-elim
       (λ (e : c ≡ n).
-          let v′ = set v c (m .join (getD v c (m .none)) w) in
-          let head : getD v′ n (m .none) ≡ m .join (getD v n (m .none)) w = subst (λ j. getD v′ j (m .none) ≡ m .join (getD v j (m .none)) w) e (getD-set-same v c _ (m .none) l) in
-          let rest : joins m (same x) (listed (m .none) s v′ n) ≡ joins m (same x) (listed (m .none) s v n) = ap (joins m (same x)) (listed-same (m .none) s s v v′ n (λ k h. refl) (λ k h. getD-set-other v c k _ (m .none) (omega arith))) in
-          ap₂ (λ y z. cond (same x (context s n)) (m .join y z) z) head rest
-          ∙ here (same x (context s n)) (getD v n (m .none)) (joins m (same x) (listed (m .none) s v n))
-          ∙ ap (λ j. cond (same x (context s j)) (m .join (joins m (same x) (listed (m .none) s v (suc n))) w) (joins m (same x) (listed (m .none) s v (suc n)))) (sym e))
+      let v′ = set v c (m .join (getD v c (m .none)) w) in
+      let head : getD v′ n (m .none) ≡ m .join (getD v n (m .none)) w = subst (λ j. getD v′ j (m .none) ≡ m .join (getD v j (m .none)) w) e (getD-set-same v c _ (m .none) l) in
+      let rest : joins m (same x) (listed (m .none) s v′ n) ≡ joins m (same x) (listed (m .none) s v n) = ap (joins m (same x)) (listed-same (m .none) s s v v′ n (λ k h. refl) (λ k h. getD-set-other v c k _ (m .none) (omega arith))) in
+      ap₂ (λ y z. cond (same x (context s n)) (m .join y z) z) head rest
+      ∙ here (same x (context s n)) (getD v n (m .none)) (joins m (same x) (listed (m .none) s v n))
+      ∙ ap (λ j. cond (same x (context s j)) (m .join (joins m (same x) (listed (m .none) s v (suc n))) w) (joins m (same x) (listed (m .none) s v (suc n)))) (sym e))
       (λ (e : c ≡ n → ⊥).
-          let v′ = set v c (m .join (getD v c (m .none)) w) in
-          ap₂ (λ y z. cond (same x (context s n)) (m .join y z) z) (getD-set-other v c n _ (m .none) (λ z. e (sym z))) (joins-book s v n c w x (omega arith) l)
-          ∙ there (same x (context s n)) (same x (context s c)) (getD v n (m .none)) (joins m (same x) (listed (m .none) s v n)))
+      let v′ = set v c (m .join (getD v c (m .none)) w) in
+      ap₂ (λ y z. cond (same x (context s n)) (m .join y z) z) (getD-set-other v c n _ (m .none) (λ z. e (sym z))) (joins-book s v n c w x (omega arith) l)
+      ∙ there (same x (context s n)) (same x (context s c)) (getD v n (m .none)) (joins m (same x) (listed (m .none) s v n)))
       (cases-eq c n)
     where
       here : (b : Bool) (y z : M) → cond b (m .join (m .join y w) z) z ≡ cond b (m .join (cond b (m .join y z) z) w) (cond b (m .join y z) z)

@@ -82,9 +82,9 @@ root-of s zero l h = absurd (omega arith)
 root-of s (suc n) l h = ⊎-elim
     (λ (below : l < roots s n). let r = root-of s n l below in (r .0, omega (arith, r .1), r .2, r .3))
     (λ (above : roots s n ≤ l). ⊎-elim
-        (λ (z : getD s n blank .function ≡ 0). (n, omega arith, z, omega (arith, roots-root s n z)))
-        (λ (z : getD s n blank .function ≡ 0 → ⊥). absurd (omega (arith, roots-kid s n (omega arith))))
-        (cases-eq (getD s n blank .function) 0))
+    (λ (z : getD s n blank .function ≡ 0). (n, omega arith, z, omega (arith, roots-root s n z)))
+    (λ (z : getD s n blank .function ≡ 0 → ⊥). absurd (omega (arith, roots-kid s n (omega arith))))
+    (cases-eq (getD s n blank .function) 0))
     (cases-lt l (roots s n))
 
 -- two root rows are not of one level
@@ -93,11 +93,11 @@ roots-rise s zero k h z = absurd (omega arith)
 roots-rise s (suc n) k h z = ⊎-elim
     (λ (e : k ≡ n). subst (λ j. roots s j < roots s (suc n)) (sym e) (omega (arith, roots-root s n (subst (λ j. getD s j blank .function ≡ 0) e z))))
     (λ (ne : k ≡ n → ⊥).
-        let low = roots-rise s n k (omega arith) z in
-        ⊎-elim
-        (λ (y : getD s n blank .function ≡ 0). omega (arith, roots-root s n y))
-        (λ (y : getD s n blank .function ≡ 0 → ⊥). omega (arith, roots-kid s n (omega arith)))
-        (cases-eq (getD s n blank .function) 0))
+    let low = roots-rise s n k (omega arith) z in
+    ⊎-elim
+    (λ (y : getD s n blank .function ≡ 0). omega (arith, roots-root s n y))
+    (λ (y : getD s n blank .function ≡ 0 → ⊥). omega (arith, roots-kid s n (omega arith)))
+    (cases-eq (getD s n blank .function) 0))
     (cases-eq k n)
 
 -- ---- the first n rows decide
@@ -141,13 +141,13 @@ module _ (s : List Shape) (n top top′ : ℕ) (t : Table s n top) (room : n < l
       → (j k : ℕ) → j < n + 1 → k < n + 1 → 0 < getD s j blank .function → getD s j blank .function ≡ getD s k blank .function → getD s j blank .parent ≡ getD s k blank .parent → j ≡ k
   apart-more absent j k hj hk named f p = ⊎-elim
       (λ (ej : j ≡ n). ⊎-elim
-          (λ (ek : k ≡ n). ej ∙ sym ek)
-          (λ (nk : k ≡ n → ⊥). absurd (absent k (omega arith) (subst (λ x. 0 < getD s x blank .function) ej named) (sym f ∙ ap (λ x. getD s x blank .function) ej) (sym p ∙ ap (λ x. getD s x blank .parent) ej)))
-          (cases-eq k n))
+      (λ (ek : k ≡ n). ej ∙ sym ek)
+      (λ (nk : k ≡ n → ⊥). absurd (absent k (omega arith) (subst (λ x. 0 < getD s x blank .function) ej named) (sym f ∙ ap (λ x. getD s x blank .function) ej) (sym p ∙ ap (λ x. getD s x blank .parent) ej)))
+      (cases-eq k n))
       (λ (nj : j ≡ n → ⊥). ⊎-elim
-          (λ (ek : k ≡ n). absurd (absent j (omega arith) (subst (λ x. 0 < x) (f ∙ ap (λ x. getD s x blank .function) ek) named) (f ∙ ap (λ x. getD s x blank .function) ek) (p ∙ ap (λ x. getD s x blank .parent) ek)))
-          (λ (nk : k ≡ n → ⊥). t .apart j k (omega arith) (omega arith) named f p)
-          (cases-eq k n))
+      (λ (ek : k ≡ n). absurd (absent j (omega arith) (subst (λ x. 0 < x) (f ∙ ap (λ x. getD s x blank .function) ek) named) (f ∙ ap (λ x. getD s x blank .function) ek) (p ∙ ap (λ x. getD s x blank .parent) ek)))
+      (λ (nk : k ≡ n → ⊥). t .apart j k (omega arith) (omega arith) named f p)
+      (cases-eq k n))
       (cases-eq j n)
 
   pub table-more : Good s n

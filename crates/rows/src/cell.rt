@@ -5,7 +5,6 @@ ghost use Prim.Native.Nat.{_≤_, _<_};
 ghost use lib.ListN.{length, getD, set};
 ghost use Rattle.rows.specs.Shapes.{shapes, written};
 ghost use Rattle.rows.specs.Cells.{values, marks, heads, links, Saw, Index-same};
-
 use crate::row::Row;
 use crate::row::Seen;
 use metrics::metric::Metric;
@@ -25,12 +24,12 @@ pub fn look<M>(rows: &[Row<M>], i: usize) -> Seen
     }
 }
 
-// The value of the row i.
-pub fn value_of<M: Metric>(rows: &[Row<M>], i: usize) -> M
-    requires { ⌜ i < length (now rows) ⌝ }
-    ensures { λ r. ⌜ means r ≡ getD (values means (now (rows .entry))) i (measure .none) ⌝ }
+// The value of the row at `at`.
+pub fn value_of<M: Metric>(rows: &[Row<M>], at: usize) -> M
+    requires { ⌜ at < length (now rows) ⌝ }
+    ensures { λ r. ⌜ means r ≡ getD (values means (now (rows .entry))) at (measure .none) ⌝ }
 {
-    rows[i].value
+    rows[at].value
 }
 
 // The first row of the chain at place i, plus 1.
@@ -99,7 +98,14 @@ pub fn set_next<M: Metric>(rows: &mut [Row<M>], i: usize, after: usize)
 }
 
 // Writes the row n with the unit as its value; its mark and both of its links stay.
-pub fn put<M: Metric>(rows: &mut [Row<M>], n: usize, level: usize, function: u16, parent: usize, depth: usize)
+pub fn put<M: Metric>(
+    rows: &mut [Row<M>],
+    n: usize,
+    level: usize,
+    function: u16,
+    parent: usize,
+    depth: usize,
+)
     requires row { ⌜ n < length (now rows) ⌝ }
     requires small { ⌜ (level ≤ 65535) × (parent ≤ 65535) × (depth ≤ 65535) ⌝ }
     ensures same { λ _. ⌜ shapes (now (rows .exit)) ≡ set (shapes (now (rows .entry))) n (written level function parent depth) ⌝ }
@@ -110,7 +116,16 @@ pub fn put<M: Metric>(rows: &mut [Row<M>], n: usize, level: usize, function: u16
     let mark = rows[n].mark;
     let head = rows[n].head;
     let next = rows[n].next;
-    rows[n] = Row { level: level as u16, function, parent: parent as u16, depth: depth as u16, mark, head, next, value: M::unit() };
+    rows[n] = Row {
+        level: level as u16,
+        function,
+        parent: parent as u16,
+        depth: depth as u16,
+        mark,
+        head,
+        next,
+        value: M::unit(),
+    };
 }
 
 // Joins a value to that of the row i.

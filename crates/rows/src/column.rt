@@ -6,7 +6,6 @@ ghost use Rattle.rows.specs.Shapes.{shapes, blank};
 ghost use Rattle.rows.specs.Cells.{values};
 ghost use Rattle.rows.specs.Sound.{Table};
 ghost use Rattle.rows.specs.Columns.{meanings, Copied, handed, Filled, unshaped, Shaped};
-
 use crate::cell::look;
 use crate::cell::value_of;
 use crate::row::Row;
@@ -74,7 +73,10 @@ fn copy_shape<M>(rows: &[Row<M>], column: &mut [ShapeRow], k: usize)
     ensures { λ _. ⌜ now (column .exit) ≡ set (now (column .entry)) k (record { function = getD (shapes (now (rows .entry))) k blank .function; parent = getD (shapes (now (rows .entry))) k blank .parent }) ⌝ }
 {
     let seen = look(rows, k);
-    column[k] = ShapeRow { function: seen.function, parent: seen.parent as u16 };
+    column[k] = ShapeRow {
+        function: seen.function,
+        parent: seen.parent as u16,
+    };
 }
 
 // Fills the column with the shape of the first n rows.

@@ -7,7 +7,6 @@ ghost use Rattle.rows.specs.Cells.{values, marks, heads, links, Index-same};
 ghost use Rattle.rows.specs.Index.{Indexed};
 ghost use Rattle.rows.specs.Sound.{Table};
 ghost use Rattle.rows.specs.Flats.{Ready, Seated, Flattening};
-
 use crate::cell::book;
 use crate::cell::look;
 use crate::cell::note;

@@ -6,7 +6,6 @@ ghost use lib.ListN.{length, getD, set};
 ghost use Rattle.rows.specs.Shapes.{shapes, blank, written};
 ghost use Rattle.rows.specs.Cells.{values, marks, heads, links};
 ghost use Rattle.rows.specs.Index.{slot, Indexed, Found};
-
 use crate::cell::head_of;
 use crate::cell::look;
 use crate::cell::next_of;
@@ -58,7 +57,14 @@ pub fn link<M: Metric>(rows: &mut [Row<M>], n: usize)
 }
 
 // Puts a row with the unit after the first n rows.
-pub fn push<M: Metric>(rows: &mut [Row<M>], n: usize, level: usize, function: u16, parent: usize, depth: usize)
+pub fn push<M: Metric>(
+    rows: &mut [Row<M>],
+    n: usize,
+    level: usize,
+    function: u16,
+    parent: usize,
+    depth: usize,
+)
     requires room { ⌜ n < length (now rows) ⌝ }
     requires few { ⌜ length (now rows) ≤ 65535 ⌝ }
     requires small { ⌜ (level ≤ 65535) × (parent ≤ 65535) × (depth ≤ 65535) ⌝ }

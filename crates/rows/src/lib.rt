@@ -4,7 +4,7 @@ pub mod cell;
 pub mod column;
 pub mod flatten;
 pub mod index;
-pub mod table;
 pub mod rejection;
 pub mod row;
 pub mod shape;
+pub mod table;

@@ -1,6 +1,5 @@
 // A row of the table that a user lends.
 ghost use mathlib.Core.Path.{_≡_};
-
 use metrics::metric::Metric;
 
 // A row stands for a context: its path is read along the parents up to a row with the empty path. A table has at most 65,535
@@ -28,7 +27,16 @@ impl<M: Metric> Row<M> {
     pub fn empty() -> Row<M>
         ensures { λ r. ⌜ means (r .value) ≡ measure .none ⌝ }
     {
-        Row { level: 0, function: 0, parent: 0, depth: 0, mark: 0, head: 0, next: 0, value: M::unit() }
+        Row {
+            level: 0,
+            function: 0,
+            parent: 0,
+            depth: 0,
+            mark: 0,
+            head: 0,
+            next: 0,
+            value: M::unit(),
+        }
     }
 }
 

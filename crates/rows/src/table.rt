@@ -6,7 +6,6 @@ ghost use Rattle.rows.specs.Shapes.{shapes, blank};
 ghost use Rattle.rows.specs.Cells.{values, marks, heads, links};
 ghost use Rattle.rows.specs.Index.{Indexed};
 ghost use Rattle.rows.specs.Steps.{Reached, Reach, Enter, Reindexed};
-
 use crate::cell::book;
 use crate::cell::look;
 use crate::index::child;
@@ -36,7 +35,12 @@ pub fn place<M: Metric>(rows: &mut [Row<M>], count: usize, up: usize, function: 
 }
 
 // The same, where the path may be too long or the table full.
-pub fn reach<M: Metric>(rows: &mut [Row<M>], count: usize, up: usize, function: u16) -> Result<usize, Rejection>
+pub fn reach<M: Metric>(
+    rows: &mut [Row<M>],
+    count: usize,
+    up: usize,
+    function: u16,
+) -> Result<usize, Rejection>
     requires fits { ⌜ count ≤ length (now rows) ⌝ }
     requires few { ⌜ length (now rows) ≤ 65535 ⌝ }
     requires below { ⌜ up < count ⌝ }
@@ -59,7 +63,12 @@ pub fn reach<M: Metric>(rows: &mut [Row<M>], count: usize, up: usize, function: 
 }
 
 // The same, with the value of a call joined.
-pub fn enter<M: Metric>(rows: &mut [Row<M>], count: usize, up: usize, function: u16) -> Result<usize, Rejection>
+pub fn enter<M: Metric>(
+    rows: &mut [Row<M>],
+    count: usize,
+    up: usize,
+    function: u16,
+) -> Result<usize, Rejection>
     requires fits { ⌜ count ≤ length (now rows) ⌝ }
     requires few { ⌜ length (now rows) ≤ 65535 ⌝ }
     requires below { ⌜ up < count ⌝ }

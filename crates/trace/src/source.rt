@@ -6,7 +6,6 @@ ghost use Rattle.trace.specs.declared.record.Record.{Record};
 ghost use Rattle.trace.specs.declared.fault.Ending.{Ending};
 ghost use Rattle.trace.specs.Ranges.{InRange};
 ghost use Rattle.trace.specs.Sources.{Every, answered, rest};
-
 use crate::fault::Fault;
 use crate::record::Record;
 

@@ -7,7 +7,6 @@ ghost use Rattle.rows.specs.Shapes.{shapes};
 ghost use Rattle.rows.specs.Cells.{marks, Saw};
 ghost use Rattle.profile.specs.Given.{Given, tabled};
 ghost use Rattle.profile.specs.View.{view, fresh};
-
 use super::Summary;
 use metrics::metric::Metric;
 use rows::cell::book;
@@ -40,7 +39,12 @@ impl<'a, M: Metric> Summary<'a, M> {
     {
         clear(rows);
         push(rows, 0, 0, 0, 0, 0);
-        Summary { rows, count: 1, level: 0, current: 0 }
+        Summary {
+            rows,
+            count: 1,
+            level: 0,
+            current: 0,
+        }
     }
 
     // The open path's row, without its value.

@@ -3,7 +3,6 @@ ghost use mathlib.Core.Path.{_≡_};
 ghost use Prim.Native.Nat.{ℕ, _<_, _≤_};
 ghost use Rattle.profile.specs.Given.{Complete};
 ghost use Rattle.profile.specs.View.{view, Answers-open, Answers-row};
-
 use super::Summary;
 use super::SummaryRow;
 use metrics::metric::Metric;
@@ -42,6 +41,11 @@ impl<'a, M: Metric> Summary<'a, M> {
         }
         let seen = look(self.rows, number);
         let value = value_of(self.rows, number);
-        Some(SummaryRow { level: seen.level, function: seen.function, parent: seen.parent, value })
+        Some(SummaryRow {
+            level: seen.level,
+            function: seen.function,
+            parent: seen.parent,
+            value,
+        })
     }
 }

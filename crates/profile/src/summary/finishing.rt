@@ -3,7 +3,6 @@ ghost use mathlib.Core.Path.{_≡_};
 ghost use Rattle.model.specs.Trees.{finished};
 ghost use Rattle.profile.specs.View.{view};
 ghost use Rattle.profile.specs.Leaves.{tree-view};
-
 use super::Summary;
 use crate::tree::Tree;
 use metrics::metric::Metric;
@@ -15,9 +14,19 @@ impl<'a, M: Metric> Summary<'a, M> {
     pub fn finish(self) -> Tree<'a, M>
         ensures { λ r. ⌜ tree-view measure means r ≡ finished measure (view measure means (self .entry) .is) ⌝ }
     {
-        let Summary { rows, count: n, level, current } = self;
+        let Summary {
+            rows,
+            count: n,
+            level,
+            current,
+        } = self;
         let count = flatten(rows, n, level);
         let open = look(rows, current).mark;
-        Tree { rows, count, strays: level, current: open }
+        Tree {
+            rows,
+            count,
+            strays: level,
+            current: open,
+        }
     }
 }

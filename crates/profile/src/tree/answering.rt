@@ -2,7 +2,6 @@
 ghost use mathlib.Core.Path.{_≡_};
 ghost use Prim.Native.Nat.{ℕ, _<_, _≤_};
 ghost use Rattle.profile.specs.Leaves.{tree-view, Whole, Answers-row};
-
 use super::Tree;
 use super::TreeRow;
 use metrics::metric::Metric;
@@ -41,6 +40,10 @@ impl<'a, M: Metric> Tree<'a, M> {
         }
         let seen = look(self.rows, number);
         let value = value_of(self.rows, number);
-        Some(TreeRow { function: seen.function, parent: seen.parent, value })
+        Some(TreeRow {
+            function: seen.function,
+            parent: seen.parent,
+            value,
+        })
     }
 }

@@ -1,7 +1,6 @@
 // What a tree fills columns with.
 ghost use Rattle.rows.specs.Columns.{meanings};
 ghost use Rattle.profile.specs.Inclusions.{Inclusion, Shaping};
-
 use super::ShortColumn;
 use super::Tree;
 use metrics::metric::Metric;
@@ -15,7 +14,9 @@ impl<'a, M: Metric> Tree<'a, M> {
         ensures { λ r. ⌜ Shaping (now (self .entry)) (now (column .entry)) (now (column .exit)) r ⌝ }
     {
         if column.len() < self.count {
-            return Err(ShortColumn { places: column.len() });
+            return Err(ShortColumn {
+                places: column.len(),
+            });
         }
         fill_shape(self.rows, self.count, column);
         Ok(())
@@ -26,7 +27,9 @@ impl<'a, M: Metric> Tree<'a, M> {
         ensures { λ r. ⌜ Inclusion measure means (now (self .entry)) (meanings means (now (column .entry))) (meanings means (now (column .exit))) r ⌝ }
     {
         if column.len() < self.count {
-            return Err(ShortColumn { places: column.len() });
+            return Err(ShortColumn {
+                places: column.len(),
+            });
         }
         fill(self.rows, self.count, column);
         Ok(())

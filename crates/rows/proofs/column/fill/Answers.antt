@@ -43,10 +43,12 @@ loop-i-again g c =
     let p = getD s r blank .parent in
     let ep : c .look-p .result .parent ≡ p = c .look-p .ensures .saw .parent in
     let ec : col′ ≡ handed (m .measure) col p r = c .hand-up .ensures ∙ ap (λ k. handed (m .measure) col k r) ep in
-    let low = parent-low s n (c .pre .table) r (omega (arith, i .3)) in
-    (fill-step s n (c .pre .table) (g .M·Metric·met .lawful) v col col′ r (omega arith) (omega (arith, i .3)) (subst (λ k. Filling (m .measure) s v col n k) e (i .0)) ec,
-     (λ k h. let ne : k ≢ p = omega (arith, low, i .3) in ap (λ u. getD u k none) ec ∙ getD-set-other col p k (m .measure .join (getD col p none) (getD col r none)) none ne ∙ i .1 k h),
-     omega arith, omega (arith, i .3))
+    let low = parent-low s n (c .pre .table) r (omega (arith, i .3)) in (
+      fill-step s n (c .pre .table) (g .M·Metric·met .lawful) v col col′ r (omega arith) (omega (arith, i .3)) (subst (λ k. Filling (m .measure) s v col n k) e (i .0)) ec,
+      (λ k h. let ne : k ≢ p = omega (arith, low, i .3) in ap (λ u. getD u k none) ec ∙ getD-set-other col p k (m .measure .join (getD col p none) (getD col r none)) none ne ∙ i .1 k h),
+      omega arith,
+      omega (arith, i .3),
+    )
 
 pub returns : need.returns
 returns g c =

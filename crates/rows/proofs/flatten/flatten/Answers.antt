@@ -28,10 +28,11 @@ loop-i-holds g c =
     let before = c .link .last .rows in
     let h : 0 < length (marks before) = omega (arith, long-marks before, some _ _ _ (c .pre .table)) in
     let es : shapes rows ≡ shapes (c .args .rows .now) = c .note .ensures .same ∙ c .link .ensures .same ∙ c .clear .ensures .same in
-    let t = subst (λ u. Table u (c .args .n) (c .args .top)) (sym es) (c .pre .table) in
-    (flat-start (g .M·Metric·met .lawful) (shapes rows) (values (m .means) rows) (c .args .n) (c .args .top) t (marks rows)
-     (ap (λ u. getD u 0 0) (c .note .ensures .noted) ∙ getD-set-same (marks before) 0 0 0 h),
-     indexed-moved _ _ _ _ _ _ _ (c .note .ensures .same) (c .note .ensures .index) (c .link .ensures .indexed))
+    let t = subst (λ u. Table u (c .args .n) (c .args .top)) (sym es) (c .pre .table) in (
+      flat-start (g .M·Metric·met .lawful) (shapes rows) (values (m .means) rows) (c .args .n) (c .args .top) t (marks rows)
+          (ap (λ u. getD u 0 0) (c .note .ensures .noted) ∙ getD-set-same (marks before) 0 0 0 h),
+      indexed-moved _ _ _ _ _ _ _ (c .note .ensures .same) (c .note .ensures .index) (c .link .ensures .indexed),
+    )
 
 pub flatten-row-to-requires : need.flatten-row-to-requires
 flatten-row-to-requires g c κs =
@@ -56,9 +57,10 @@ loop-i-again g c =
     let t = subst (λ u. Table u (c .args .n) (c .args .top)) (sym es) (c .pre .table) in
     let im : c .loop-i .i < length (marks now) = omega (arith, long-marks now) in
     let iv : c .loop-i .i < length (values (m .means) now) = omega (arith, long-values (m .means) now, long now) in
-    let w = flat-step (g .M·Metric·met .lawful) (shapes rows) (values (m .means) rows) (c .args .n) (c .args .top) t (shapes now) (values (m .means) now) (marks now) (c .loop-i .c) (c .loop-i .i) (omega arith) (c .loop-i .inv .0) (shapes after) (values (m .means) after) (marks after) (c .flatten-row-to .result) im iv (c .flatten-row-to .ensures .seated) in
-    (subst (λ k. Flattening (m .measure) (shapes rows) (shapes after) (values (m .means) rows) (values (m .means) after) (marks after) k (c .loop-i .i + 1)) (sym (c .max-c .ensures)) w,
-     subst (λ k. Indexed (shapes after) (heads after) (links after) k) (sym (c .max-c .ensures)) (c .flatten-row-to .ensures .indexed))
+    let w = flat-step (g .M·Metric·met .lawful) (shapes rows) (values (m .means) rows) (c .args .n) (c .args .top) t (shapes now) (values (m .means) now) (marks now) (c .loop-i .c) (c .loop-i .i) (omega arith) (c .loop-i .inv .0) (shapes after) (values (m .means) after) (marks after) (c .flatten-row-to .result) im iv (c .flatten-row-to .ensures .seated) in (
+      subst (λ k. Flattening (m .measure) (shapes rows) (shapes after) (values (m .means) rows) (values (m .means) after) (marks after) k (c .loop-i .i + 1)) (sym (c .max-c .ensures)) w,
+      subst (λ k. Indexed (shapes after) (heads after) (links after) k) (sym (c .max-c .ensures)) (c .flatten-row-to .ensures .indexed),
+    )
 
 pub returns : need.returns
 returns g c =

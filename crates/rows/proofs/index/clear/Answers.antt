@@ -17,11 +17,14 @@ loop-i-again g c =
     let a = c .set-head .ensures in
     let rows = c .loop-i .rows in
     let i = c .loop-i .i in
-    let room : i < length (heads rows) = omega (arith, long-heads rows) in
-    (a .same ∙ v .0, a .held ∙ v .1, a .noted ∙ v .2,
-     below-more _ _
-     (λ k h. let ne : k ≢ i = omega arith in ap (λ u. getD u k 0) (a .head) ∙ getD-set-other (heads rows) i k 0 0 ne ∙ v .3 k h)
-     (ap (λ u. getD u i 0) (a .head) ∙ getD-set-same (heads rows) i 0 0 room))
+    let room : i < length (heads rows) = omega (arith, long-heads rows) in (
+      a .same ∙ v .0,
+      a .held ∙ v .1,
+      a .noted ∙ v .2,
+      below-more _ _
+          (λ k h. let ne : k ≢ i = omega arith in ap (λ u. getD u k 0) (a .head) ∙ getD-set-other (heads rows) i k 0 0 ne ∙ v .3 k h)
+          (ap (λ u. getD u i 0) (a .head) ∙ getD-set-same (heads rows) i 0 0 room),
+    )
 
 pub returns : need.returns
 returns g c =

@@ -10,7 +10,7 @@ use Rattle.rows.proofs.Views.{long, long-values}
 use Rattle.rows.specs.Sound.{Sound}
 use Rattle.rows.proofs.Sounds.{whole}
 use Rattle.rows.proofs.Chains.{whole-index}
-use Rattle.profile.proofs.Giving.{held-path, ranged-not, call-sound, call-taken, call-refused}
+use Rattle.profile.proofs.Giving.{held-path, ranged-not, taken, call-sound, call-taken, call-refused}
 use Rattle.profile.proofs.summary.Summary.call.Needs as need
 
 pub returns-then-function-eq0 : need.returns-then-function-eq0
@@ -42,7 +42,7 @@ returns-in-Ok g c =
     let e = ap (λ x. x .now) (c .replace-rows .ensures .value) in
     let r = simp e at (c .in-Ok .ensures tt .entered) in
     let l = ap length e in
-    call-taken (g .M·Metric·met .lawful) (shapes (a .rows .now)) (values (m .means) (a .rows .now)) (a .count) (a .level) (a .current) (whole (a .sound)) (long-values (m .means) (a .rows .now)) (c .args .function) (omega arith) _ _ _ _ r (c .max-self .ensures) _ _ (omega arith) (sym (long (a .rows .now))) (omega arith)
+    taken {m = m .measure} _ _ _ (call-taken (g .M·Metric·met .lawful) (shapes (a .rows .now)) (values (m .means) (a .rows .now)) (a .count) (a .level) (a .current) (whole (a .sound)) (long-values (m .means) (a .rows .now)) (c .args .function) (omega arith) _ _ _ _ r (c .max-self .ensures) _ _ (omega arith) (sym (long (a .rows .now))) (omega arith))
 
 pub returns-in-Err : need.returns-in-Err
 returns-in-Err g c =
@@ -50,9 +50,10 @@ returns-in-Err g c =
     let a = c .args .self .now in
     let e = ap (λ x. x .now) (c .replace-rows .ensures .value) in
     let r = simp e at (c .in-Err .ensures tt .entered) in
-    let l = ap length e in
-    (held-path _ _ (ap₂ (λ s v. reading (m .measure) s v (a .count) (a .current)) (r .0) (r .1)) refl (omega arith),
-     call-refused (g .M·Metric·met .lawful) (shapes (a .rows .now)) (values (m .means) (a .rows .now)) (a .count) (a .level) (a .current) (whole (a .sound)) (long-values (m .means) (a .rows .now)) (c .args .function) (omega arith) _ (c .in-Err .e) (omega arith) (sym (long (a .rows .now))) (r .2))
+    let l = ap length e in (
+      held-path _ _ (ap₂ (λ s v. reading (m .measure) s v (a .count) (a .current)) (r .0) (r .1)) refl (omega arith),
+      call-refused (g .M·Metric·met .lawful) (shapes (a .rows .now)) (values (m .means) (a .rows .now)) (a .count) (a .level) (a .current) (whole (a .sound)) (long-values (m .means) (a .rows .now)) (c .args .function) (omega arith) _ (c .in-Err .e) (omega arith) (sym (long (a .rows .now))) (r .2),
+    )
 
 pub ghost-self-in-Err· : need.ghost-self-in-Err·
 ghost-self-in-Err· g c =

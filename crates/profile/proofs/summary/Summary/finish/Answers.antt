@@ -30,6 +30,6 @@ returns g c =
     let to = getD (marks after) (a .current) 0 in
     let e : c .look-open .result .mark ≡ to = c .look-open .ensures .saw .mark in
     let deep : getD (shapes after) (c .look-open .result .mark) blank .depth ≡ getD (shapes rows) (a .current) blank .depth =
-        ap (λ k. getD (shapes after) k blank .depth) e
-        ∙ sym (depth-is (shapes after) to) ∙ ap (λ (p : Position). length (p .path)) (x .marked (a .current) (a .opened) .1) ∙ depth-is (shapes rows) (a .current) in
+    ap (λ k. getD (shapes after) k blank .depth) e
+    ∙ sym (depth-is (shapes after) to) ∙ ap (λ (p : Position). length (p .path)) (x .marked (a .current) (a .opened) .1) ∙ depth-is (shapes rows) (a .current) in
     flat-finished (g .M·Metric·met .lawful) (shapes rows) (shapes after) (values (m .means) rows) (values (m .means) after) (marks after) (a .count) (a .level) (a .current) (c .flatten-count .result) (whole (a .sound)) x (a .level) (getD (shapes after) (c .look-open .result .mark) blank .depth) refl deep

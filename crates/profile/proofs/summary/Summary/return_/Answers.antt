@@ -9,10 +9,9 @@ use Rattle.rows.proofs.Chains.{whole-index}
 use native.Mathlib.Numerals.{add-one}
 use Rattle.rows.specs.Sound.{Sound}
 use Rattle.trace.specs.declared.record.Record.the-variants.{Return}
-use Rattle.profile.specs.Given.{Taken}
 use Rattle.rows.proofs.Views.{long, long-values}
 use Rattle.rows.proofs.Sounds.{whole, narrow}
-use Rattle.profile.proofs.Giving.{held, kid-sound, kid-taken, root-sound, root-taken, root-refused}
+use Rattle.profile.proofs.Giving.{Taken, taken, held, kid-sound, kid-taken, root-sound, root-taken, root-refused}
 use Rattle.profile.proofs.summary.Summary.return_.Needs as need
 
 pub ghost-self : need.ghost-self
@@ -32,8 +31,8 @@ returns-then-seen-ne0 g c =
     let rows = a .rows .now in
     let f = sym (c .at-open-seen .ensures .function) in
     let p = sym (c .at-open-seen .ensures .parent) in
-    subst (λ x. Taken (m .measure) (held (m .measure) (shapes rows) (values (m .means) rows) (a .count) (a .current) (length rows)) (held (m .measure) (shapes rows) (values (m .means) rows) (a .count) x (length rows)) Return) p
-    (kid-taken (g .M·Metric·met .lawful) (shapes rows) (values (m .means) rows) (a .count) (a .level) (a .current) (whole (a .sound)) (long-values (m .means) rows) (length rows) (sym (long rows)) (omega (arith, f)))
+    taken {m = m .measure} _ _ _ (subst (λ x. Taken (m .measure) (held (m .measure) (shapes rows) (values (m .means) rows) (a .count) (a .current) (length rows)) (held (m .measure) (shapes rows) (values (m .means) rows) (a .count) x (length rows)) Return) p
+    (kid-taken (g .M·Metric·met .lawful) (shapes rows) (values (m .means) rows) (a .count) (a .level) (a .current) (whole (a .sound)) (long-values (m .means) rows) (length rows) (sym (long rows)) (omega (arith, f))))
 
 pub returns-then-n-self : need.returns-then-n-self
 returns-then-n-self g c =
@@ -70,7 +69,7 @@ returns g c =
     let f = sym (c .at-open-seen .ensures .function) in
     let e = ap (λ x. x .now) (c .replace-rows .ensures .value) in
     let l = ap length e in
-    root-taken (g .M·Metric·met .lawful) (shapes rows) (values (m .means) rows) (a .count) (a .level) (a .current) (whole (a .sound)) (long-values (m .means) rows) (f ∙ c .if-seen-ne0 .left) _ _ (sym (long rows)) (omega arith) (rw long (c .if-n-self .left)) _ _ (simp e at (c .push .ensures .same)) (simp e at (c .push .ensures .held))
+    taken {m = m .measure} _ _ _ (root-taken (g .M·Metric·met .lawful) (shapes rows) (values (m .means) rows) (a .count) (a .level) (a .current) (whole (a .sound)) (long-values (m .means) rows) (f ∙ c .if-seen-ne0 .left) _ _ (sym (long rows)) (omega arith) (rw long (c .if-n-self .left)) _ _ (simp e at (c .push .ensures .same)) (simp e at (c .push .ensures .held)))
 
 pub push-requires : need.push-requires
 push-requires g c κs =

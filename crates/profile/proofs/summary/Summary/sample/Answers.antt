@@ -8,7 +8,7 @@ use Rattle.rows.specs.Reading.{reading}
 use Rattle.rows.proofs.Views.{long, long-values}
 use Rattle.rows.proofs.Sounds.{whole}
 use Rattle.rows.proofs.Bridge.{sampled}
-use Rattle.profile.proofs.Giving.{held-path, path-low}
+use Rattle.profile.proofs.Giving.{held-path, taken, path-low}
 use Rattle.profile.proofs.summary.Summary.sample.Needs as need
 
 pub returns : need.returns
@@ -25,7 +25,7 @@ returns g c =
     let h : a .current < length v = omega (arith, long-values (m .means) rows, o .opened, o .table .fits) in
     let kept = simp e at (c .book .ensures .same) in
     let booked = simp e at (c .book .ensures .held) in
-    record {
+    taken {m = m .measure} _ _ _ (record {
       ranged = sym (c .if-not-is-in-range .ensures tt);
       shallow = path-low laws s v (a .count) (a .level) (a .current) o (long-values (m .means) rows);
       fits = omega arith;
@@ -33,4 +33,4 @@ returns g c =
           ∙ sampled laws s v (a .count) (a .level) (a .current) o _ (c .args .sample) h (booked ∙ ap (λ w. set v (a .current) (m .measure .join (getD v (a .current) (m .measure .none)) w)) (c .of-sample .ensures));
       count = omega arith;
       room = omega arith;
-    }
+    })

@@ -12,7 +12,7 @@ use Rattle.rows.proofs.Views.{long, long-values}
 use Rattle.rows.proofs.Sounds.{whole}
 use Rattle.rows.proofs.Readings.{depth-is}
 use Rattle.rows.proofs.Bridge.{unwound-none}
-use Rattle.profile.proofs.Giving.{ranged-from, ranged-not, ranged-above, path-low, along, unwound-long}
+use Rattle.profile.proofs.Giving.{ranged-from, taken, path-low, along, unwound-long}
 use Rattle.profile.proofs.summary.Summary.unwind.Needs as need
 use Rattle.profile.proofs.summary.Summary.unwind.Needs.{else-count-deep·by·then-count-deep·else-count-deep-2, else-count-deep·by·else-count-deep}
 
@@ -55,11 +55,11 @@ returns g c =
     let fits : a .count + (c .args .count - length (context (shapes rows) (a .current) .path)) ≤ length rows = elim (c .else-count-deep .came) [ else-count-deep·by·then-count-deep·else-count-deep-2 w ↦ omega (arith, w .if-count-deep-2 .left) | else-count-deep·by·else-count-deep w ↦ omega (arith, w .if-count-deep .left) ] in
     let e : c .loop-i .i ≡ c .args .count = omega arith in
     let w = c .loop-i .inv in
-    record {
+    taken {m = m .measure} _ _ _ (record {
       ranged = ranged-from 1 4095 (c .args .count) (omega arith) (omega arith);
       shallow = omega (arith, unwound-long (c .args .count) (context (shapes rows) (a .current)));
       fits = fits;
       is = w .is ∙ ap (λ k. added (m .measure) (view (m .measure) (m .means) a .is) (Unwind k)) e;
       count = omega (arith, w .count);
       room = w .room;
-    }
+    })
