@@ -20,6 +20,7 @@ pub struct Tree<'a, M> {
     // the row at which the open path ends
     pub(crate) current: usize,
     ghost fits: { count ≤ length (now rows) },
+    ghost few: { length (now rows) ≤ 65535 },
     ghost opened: { current < count },
     ghost sound: { ∥ Table (shapes (now rows)) count 0 ∥₁ },
 }

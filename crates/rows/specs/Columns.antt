@@ -10,11 +10,9 @@ use Rattle.metrics.specs.Joins.{joins}
 use Rattle.model.specs.Positions.{Path}
 use Rattle.model.specs.Trees.{begins, inclusive}
 use Rattle.rows.specs.declared.shape.ShapeRow.{ShapeRow}
+use Rattle.rows.specs.ShapeColumn.{no-row}
 use Rattle.rows.specs.Shapes.{Shape, blank}
 use Rattle.rows.specs.Reading.{context, listed}
-
-abbrev pub unshaped : ShapeRow
-unshaped = record { function = 0; parent = 0 }
 
 -- the first n values by number, the last first
 abbrev pub numbered : {M : Type 0} → M → List M → ℕ → List (ℕ × M)
@@ -67,7 +65,7 @@ pub record Included {M : Type 0} (m : Measure M) (s : List Shape) (v col col′ 
 
 -- each of the first n places has its row's function and parent, and the others keep what they held
 pub record Shaped (s : List Shape) (col col′ : List ShapeRow) (n : ℕ) : Type 0 where
-  pub function : (k : ℕ) → k < n → getD col′ k unshaped .function ≡ getD s k blank .function
-  pub parent : (k : ℕ) → k < n → getD col′ k unshaped .parent ≡ getD s k blank .parent
-  pub rest : (k : ℕ) → n ≤ k → getD col′ k unshaped ≡ getD col k unshaped
+  pub function : (k : ℕ) → k < n → getD col′ k no-row .function ≡ getD s k blank .function
+  pub parent : (k : ℕ) → k < n → getD col′ k no-row .parent ≡ getD s k blank .parent
+  pub rest : (k : ℕ) → n ≤ k → getD col′ k no-row ≡ getD col k no-row
   pub long : length col′ ≡ length col

@@ -7,4 +7,5 @@ pub mod Steps
 pub mod Reading
 pub mod Gains
 pub mod Flats
+pub mod ShapeColumn
 pub mod Columns

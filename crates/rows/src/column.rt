@@ -5,7 +5,7 @@ ghost use lib.ListN.{length, getD, set};
 ghost use Rattle.rows.specs.Shapes.{shapes, blank};
 ghost use Rattle.rows.specs.Cells.{values};
 ghost use Rattle.rows.specs.Sound.{Table};
-ghost use Rattle.rows.specs.Columns.{meanings, Copied, handed, Filled, unshaped, Shaped};
+ghost use Rattle.rows.specs.Columns.{meanings, Copied, handed, Filled, Shaped};
 use crate::cell::look;
 use crate::cell::value_of;
 use crate::row::Row;

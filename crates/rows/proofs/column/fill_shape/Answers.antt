@@ -7,7 +7,8 @@ use lib.Seq.{getD-set-same, getD-set-other}
 use borrow.Author.Count.{below-more}
 use Rattle.rows.specs.declared.shape.ShapeRow.{ShapeRow}
 use Rattle.rows.specs.Shapes.{shapes, blank}
-use Rattle.rows.specs.Columns.{Shaped, unshaped}
+use Rattle.rows.specs.Columns.{Shaped}
+use Rattle.rows.specs.ShapeColumn.{no-row}
 use Rattle.rows.proofs.column.fill_shape.Needs as need
 
 pub loop-k-holds : need.loop-k-holds
@@ -21,11 +22,11 @@ loop-k-again g c =
     let i = c .loop-k .inv in
     let x : ShapeRow = record { function = getD s k blank .function; parent = getD s k blank .parent } in
     let h : k < length col = omega (arith, i .long) in
-    let here : getD (set col k x) k unshaped ≡ x = getD-set-same col k x unshaped h in
+    let here : getD (set col k x) k no-row ≡ x = getD-set-same col k x no-row h in
     subst (λ u. Shaped s (c .args .column .now) u (k + 1)) (sym (c .copy-shape .ensures))
     (record {
-      function = below-more _ _ (λ j l. let ne : j ≢ k = omega arith in ap (λ (r : ShapeRow). r .function) (getD-set-other col k j x unshaped ne) ∙ i .function j l) (ap (λ (r : ShapeRow). r .function) here);
-      parent = below-more _ _ (λ j l. let ne : j ≢ k = omega arith in ap (λ (r : ShapeRow). r .parent) (getD-set-other col k j x unshaped ne) ∙ i .parent j l) (ap (λ (r : ShapeRow). r .parent) here);
-      rest = λ j l. let ne : j ≢ k = omega arith in getD-set-other col k j x unshaped ne ∙ i .rest j (omega arith);
+      function = below-more _ _ (λ j l. let ne : j ≢ k = omega arith in ap (λ (r : ShapeRow). r .function) (getD-set-other col k j x no-row ne) ∙ i .function j l) (ap (λ (r : ShapeRow). r .function) here);
+      parent = below-more _ _ (λ j l. let ne : j ≢ k = omega arith in ap (λ (r : ShapeRow). r .parent) (getD-set-other col k j x no-row ne) ∙ i .parent j l) (ap (λ (r : ShapeRow). r .parent) here);
+      rest = λ j l. let ne : j ≢ k = omega arith in getD-set-other col k j x no-row ne ∙ i .rest j (omega arith);
       long = length-set col k x ∙ i .long;
     })

@@ -18,7 +18,7 @@ pub ghost-result : need.ghost-result
 ghost-result g c =
     let x = c .flatten-count .ensures in
     let a = c .args .self in
-    (rw long at (x .table .fits), (omega (arith, c .look-open .ensures .saw .mark, x .marked (a .current) (a .opened) .0), (∣ x .table ∣₁, tt)))
+    (rw long at (x .table .fits), (omega (arith, a .few), (omega (arith, c .look-open .ensures .saw .mark, x .marked (a .current) (a .opened) .0), (∣ x .table ∣₁, tt))))
 
 pub returns : need.returns
 returns g c =
