@@ -1,0 +1,5 @@
+pub mod Answer
+pub mod Fault
+pub mod Order
+pub mod Size
+pub mod Text
