@@ -2,16 +2,17 @@
 ghost use mathlib.Core.Path.{_≡_};
 ghost use Prim.Native.Nat.{ℕ, _+_, _<_, _≤_};
 ghost use lib.ListN.{length};
+ghost use Rattle.std.specs.declared.option.Option.the-variants.{Some, None};
 ghost use Rattle.std.specs.Of.Vec.{vec-items, vec-len};
 ghost use Rattle.std.specs.Vec.{made};
 ghost use Rattle.rows.specs.ShapeColumn.{IsShape};
 ghost use Rattle.profile.specs.declared.reading.Stop.the-variants.{Limit};
 ghost use Rattle.printing.specs.Prints.{named, stopping, Prints, Shows, too-long};
-
 use metrics::calls::Calls;
 use metrics::calls::CallsMetric;
 use metrics::metric::Metric;
 use metrics::pair::Pair;
+use metrics::pair::PairClone;
 use metrics::pair::PairMetric;
 use metrics::work::Work;
 use metrics::work::WorkMetric;
@@ -31,6 +32,7 @@ use report::page::StopLine;
 use report::page::page_text;
 use report::page::stop_text;
 use rows::row::Row;
+use rows::row::RowClone;
 use rows::shape::ShapeRow;
 use std::alloc::AllocError;
 use std::alloc::Global;
@@ -77,8 +79,16 @@ fn stop_of(read: ReadIn) -> Option<StopLine>
     match read.stop {
         Stop::Limit => unreachable(),
         Stop::End => None,
-        Stop::Faulted(fault) => Some(StopLine { cause: fault.cause.number(), place: fault.place, passed: fault.passed }),
-        Stop::Rejected(rejection) => Some(StopLine { cause: rejection.number(), place: read.added, passed: 0 }),
+        Stop::Faulted(fault) => Some(StopLine {
+            cause: fault.cause.number(),
+            place: fault.place,
+            passed: fault.passed,
+        }),
+        Stop::Rejected(rejection) => Some(StopLine {
+            cause: rejection.number(),
+            place: read.added,
+            passed: 0,
+        }),
     }
 }
 
@@ -86,7 +96,10 @@ fn stop_of(read: ReadIn) -> Option<StopLine>
 fn shape_of(heap: Global, tree: &Tree<'_, Cost>) -> Result<Vec<ShapeRow>, AllocError>
     ensures { λ r. ⌜ made r (λ v. IsShape (vec-items v) × (vec-len v ≡ now (tree .entry) .count)) ⌝ }
 {
-    let mut shape = vec![in heap; ShapeRow { function: 0, parent: 0 }; tree.row_count()]?;
+    let mut shape = vec![in heap; ShapeRow {
+        function: 0,
+        parent: 0
+    }; tree.row_count()]?;
     match tree.shape(shape.as_mut_slice()) {
         Ok(()) => Ok(shape),
         Err(_) => unreachable(),
@@ -146,6 +159,47 @@ fn lines_of(heap: Global, tree: &Tree<'_, Cost>) -> Result<Vec<PageLine>, AllocE
 // The page of a tree.
 fn page_of(heap: Global, tree: &Tree<'_, Cost>) -> Result<String, AllocError> {
     let lines = lines_of(heap, tree)?;
-    let footer = Footer { strays: tree.strays(), open: tree.open() };
+    let footer = Footer {
+        strays: tree.strays(),
+        open: tree.open(),
+    };
     page_text(heap, &lines, &footer)
+}
+
+// What is printed where reading stopped.
+fn stopped(heap: Global, stop: &StopLine) -> Result<Printed, AllocError>
+    ensures { λ r. ⌜ made r (λ p. Shows p (Some (now (stop .entry)))) ⌝ }
+{
+    Ok(Printed::Stopped(stop_text(heap, stop)?))
+}
+
+// What is printed where it did not.
+fn paged(heap: Global, tree: &Tree<'_, Cost>) -> Result<Printed, AllocError>
+    ensures { λ r. ⌜ made r (λ p. Shows p None) ⌝ }
+{
+    Ok(Printed::Page(page_of(heap, tree)?))
+}
+
+// What is printed of a text trace.
+pub fn print_trace(heap: Global, text: &[u8]) -> Result<Printed, AllocError>
+    ensures { λ r. ⌜ made r (λ p. Prints (now (text .entry)) p) ⌝ }
+{
+    if text.len() > MOST_BYTES {
+        return stopped(
+            heap,
+            &StopLine {
+                cause: 15,
+                place: MOST_BYTES,
+                passed: 0,
+            },
+        );
+    }
+    let mut table = vec![in heap; Row::<Cost>::empty(); ROWS]?;
+    let mut summary = Summary::new(table.as_mut_slice());
+    let mut source = TextSource::new(text);
+    let read = read_in(&mut source, &mut summary, MOST_RECORDS);
+    match stop_of(read) {
+        Some(stop) => stopped(heap, &stop),
+        None => paged(heap, &summary.finish()),
+    }
 }

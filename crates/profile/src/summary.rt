@@ -12,7 +12,6 @@ mod answering;
 mod finishing;
 
 pub use adding::check_table;
-
 use rows::row::Row;
 
 // The first `count` rows are the summary's. Of every summary that exists it holds that no context comes twice and that with each path

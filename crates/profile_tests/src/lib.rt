@@ -27,7 +27,12 @@ mod tests {
     use trace::text::TextRecords;
     use trace::text::TextSource;
 
-    const WEIGHT_5: Sample = Sample { step: 0, weight: 5, site: 0, region: 0 };
+    const WEIGHT_5: Sample = Sample {
+        step: 0,
+        weight: 5,
+        site: 0,
+        region: 0,
+    };
 
     #[test]
     fn new_has_one_row() -> Result<(), Fail> {
@@ -78,9 +83,29 @@ mod tests {
         check_eq(summary.unwind(4_096), Err(Rejection::OutOfRange))?;
         check(summary.unwind(1).is_ok() && summary.unwind(4_095).is_ok())?;
         check(summary.level() == 4_094)?;
-        check_eq(summary.sample(Sample { weight: 0, ..WEIGHT_5 }), Err(Rejection::OutOfRange))?;
-        check_eq(summary.sample(Sample { region: 64, ..WEIGHT_5 }), Err(Rejection::OutOfRange))?;
-        check(summary.sample(Sample { weight: u32::MAX, region: 63, ..WEIGHT_5 }).is_ok())
+        check_eq(
+            summary.sample(Sample {
+                weight: 0,
+                ..WEIGHT_5
+            }),
+            Err(Rejection::OutOfRange),
+        )?;
+        check_eq(
+            summary.sample(Sample {
+                region: 64,
+                ..WEIGHT_5
+            }),
+            Err(Rejection::OutOfRange),
+        )?;
+        check(
+            summary
+                .sample(Sample {
+                    weight: u32::MAX,
+                    region: 63,
+                    ..WEIGHT_5
+                })
+                .is_ok(),
+        )
     }
 
     #[test]
@@ -88,25 +113,79 @@ mod tests {
         let mut rows = [Row::<Calls>::empty(); 3];
         let mut summary = Summary::new(&mut rows);
         let mut source = TextSource::new(b"call 1\nback\ncall 2\nback\ncall 3\nback\nbad\n");
-        check_eq(read_in(&mut source, &mut summary, 0), ReadIn { added: 0, stop: Stop::Limit })?;
-        check_eq(read_in(&mut source, &mut summary, 3), ReadIn { added: 3, stop: Stop::Limit })?;
+        check_eq(
+            read_in(&mut source, &mut summary, 0),
+            ReadIn {
+                added: 0,
+                stop: Stop::Limit,
+            },
+        )?;
+        check_eq(
+            read_in(&mut source, &mut summary, 3),
+            ReadIn {
+                added: 3,
+                stop: Stop::Limit,
+            },
+        )?;
         // the rejected call has left the source, and what was added stays
-        check_eq(read_in(&mut source, &mut summary, 9), ReadIn { added: 1, stop: Stop::Rejected(Rejection::TooFewRows) })?;
+        check_eq(
+            read_in(&mut source, &mut summary, 9),
+            ReadIn {
+                added: 1,
+                stop: Stop::Rejected(Rejection::TooFewRows),
+            },
+        )?;
         check(summary.row_count() == 3)?;
-        let fault = Fault { cause: Cause::UnknownKind, place: 36, passed: 0 };
-        check_eq(read_in(&mut source, &mut summary, 9), ReadIn { added: 0, stop: Stop::Rejected(Rejection::TooFewRows) })?;
-        check_eq(read_in(&mut source, &mut summary, 9), ReadIn { added: 0, stop: Stop::Faulted(fault) })?;
-        check_eq(read_in(&mut source, &mut summary, 9), ReadIn { added: 0, stop: Stop::Faulted(fault) })?;
+        let fault = Fault {
+            cause: Cause::UnknownKind,
+            place: 36,
+            passed: 0,
+        };
+        check_eq(
+            read_in(&mut source, &mut summary, 9),
+            ReadIn {
+                added: 0,
+                stop: Stop::Rejected(Rejection::TooFewRows),
+            },
+        )?;
+        check_eq(
+            read_in(&mut source, &mut summary, 9),
+            ReadIn {
+                added: 0,
+                stop: Stop::Faulted(fault),
+            },
+        )?;
+        check_eq(
+            read_in(&mut source, &mut summary, 9),
+            ReadIn {
+                added: 0,
+                stop: Stop::Faulted(fault),
+            },
+        )?;
         let mut rest = TextSource::new(b"");
-        check_eq(read_in(&mut rest, &mut summary, 1), ReadIn { added: 0, stop: Stop::End })
+        check_eq(
+            read_in(&mut rest, &mut summary, 1),
+            ReadIn {
+                added: 0,
+                stop: Stop::End,
+            },
+        )
     }
 
     #[test]
     fn levels_meet_in_a_tree() -> Result<(), Fail> {
         let mut rows = [Row::<Work>::empty(); 8];
         let mut summary = Summary::new(&mut rows);
-        let mut source = TextSource::new(b"call 1\nsample 0 5 0 0\nunwind 2\ncall 1\nsample 0 7 0 0\ncall 2\nsample 0 1 0 0\n");
-        check_eq(read_in(&mut source, &mut summary, 99), ReadIn { added: 7, stop: Stop::End })?;
+        let mut source = TextSource::new(
+            b"call 1\nsample 0 5 0 0\nunwind 2\ncall 1\nsample 0 7 0 0\ncall 2\nsample 0 1 0 0\n",
+        );
+        check_eq(
+            read_in(&mut source, &mut summary, 99),
+            ReadIn {
+                added: 7,
+                stop: Stop::End,
+            },
+        )?;
         check(summary.row_count() == 5 && summary.level() == 1)?;
         let tree = summary.finish();
         check(tree.strays() == 1 && tree.open() == 2 && tree.row_count() == 3)?;
@@ -118,8 +197,13 @@ mod tests {
         check(short[0].weight == 9 && short[1].weight == 9)?;
         let mut all = [Work { weight: 9 }; 4];
         check(tree.inclusive(&mut all).is_ok())?;
-        check(all[0].weight == 13 && all[1].weight == 13 && all[2].weight == 1 && all[3].weight == 9)?;
-        let mut shape = [ShapeRow { function: 9, parent: 9 }; 4];
+        check(
+            all[0].weight == 13 && all[1].weight == 13 && all[2].weight == 1 && all[3].weight == 9,
+        )?;
+        let mut shape = [ShapeRow {
+            function: 9,
+            parent: 9,
+        }; 4];
         check(tree.shape(&mut shape).is_ok())?;
         check(shape[2].function == 2 && shape[2].parent == 1 && shape[3].parent == 9)
     }

@@ -12,7 +12,7 @@ use Rattle.rows.specs.ShapeColumn.{IsRooted, IsShape, function-at, parent-at}
 use Rattle.report.specs.Order.{no-entry, entry-at, entry-of, Arranged, Alike, Upto, Twins}
 
 -- x stands before y and does not share parent and function with it
-abbrev Before : Entry → Entry → Type 0
+abbrev pub Before : Entry → Entry → Type 0
 Before x y = (x .parent < y .parent) ⊎ ((x .parent ≡ y .parent) × (x .function < y .function))
 
 before-trans : (x y z : Entry) → Before x y → Before y z → Before x z
@@ -36,7 +36,7 @@ strict x y (inr h) n = by-function (cases-lt (x .function) (y .function))
 neighbours : (s : List ShapeRow) (order : List Entry) → Arranged s order → (Twins order → ⊥) → (k : ℕ) → k + 1 < length order → Before (entry-at order k) (entry-at order (k + 1))
 neighbours s order a n k h = strict (entry-at order k) (entry-at order (k + 1)) (a .rises k h) (λ e. n (k, h, e))
 
-far : (s : List ShapeRow) (order : List Entry) → Arranged s order → (Twins order → ⊥) → (gap k m : ℕ) → m ≡ k + suc gap → m < length order → Before (entry-at order k) (entry-at order m)
+pub far : (s : List ShapeRow) (order : List Entry) → Arranged s order → (Twins order → ⊥) → (gap k m : ℕ) → m ≡ k + suc gap → m < length order → Before (entry-at order k) (entry-at order m)
 far s order a n zero k m e h =
     let one : m ≡ k + 1 = omega arith in
     let g : k + 1 < length order = omega arith in

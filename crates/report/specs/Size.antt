@@ -5,7 +5,6 @@ use Prim.Native.Nat.{ℕ, zero, suc, _+_}
 use lib.Dec.{eqb}
 use lib.ListN.{length}
 use Rattle.rows.specs.declared.shape.ShapeRow.{ShapeRow}
-use Rattle.report.specs.declared.order.Entry.{Entry}
 use Rattle.rows.specs.ShapeColumn.{parent-at}
 
 abbrev pub same : ℕ → ℕ → ℕ
@@ -28,7 +27,7 @@ count f (suc n) = f n + count f n
 abbrev pub size-of : List ShapeRow → ℕ → ℕ
 size-of s r = count (λ j. under s r j) (length s)
 
--- the rows at or below the children of `parent` that lead the entries
-abbrev pub sizes-of : List ShapeRow → ℕ → List Entry → ℕ
-sizes-of s parent [] = 0
-sizes-of s parent (e ∷ es) = cond (eqb (parent-at s (e .row)) parent) (size-of s (e .row) + sizes-of s parent es) 0
+-- the rows at or below several rows
+abbrev pub sizes-of : List ShapeRow → List ℕ → ℕ
+sizes-of s [] = 0
+sizes-of s (r ∷ rs) = size-of s r + sizes-of s rs

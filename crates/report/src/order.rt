@@ -1,6 +1,6 @@
 // The order of the rows by parent and then by function, in which a row's children stand side by side.
 ghost use mathlib.Core.Path.{_≡_};
-ghost use Prim.Native.Nat.{ℕ, _+_, _<_, _≤_};
+ghost use Prim.Native.Nat.{ℕ, _<_, _≤_};
 ghost use lib.ListN.{length, getD};
 ghost use Rattle.std.specs.Orderings.{When};
 ghost use Rattle.std.specs.Of.Vec.{vec-items, vec-len};
@@ -12,7 +12,7 @@ use std::alloc::Global;
 
 // A row that has a parent. The order of the fields is that of the comparison.
 #[derive(Clone, Copy, PartialEq, Eq, PartialOrd, Ord, Debug)]
-pub struct Entry {
+pub(crate) struct Entry {
     pub parent: u16,
     pub function: u16,
     pub row: u16,
@@ -37,7 +37,7 @@ fn listed(heap: Global, shape: &[ShapeRow]) -> Result<Vec<Entry>, AllocError>
 }
 
 // The rows from 1 on, by parent and then by function.
-pub fn ordered(heap: Global, shape: &[ShapeRow]) -> Result<Vec<Entry>, AllocError>
+pub(crate) fn ordered(heap: Global, shape: &[ShapeRow]) -> Result<Vec<Entry>, AllocError>
     requires some { ⌜ 0 < length (now shape) ⌝ }
     requires most { ⌜ length (now shape) ≤ 65535 ⌝ }
     ensures { λ r. ⌜ made r (λ v. Arranged (now (shape .entry)) (vec-items v)) ⌝ }
@@ -48,7 +48,7 @@ pub fn ordered(heap: Global, shape: &[ShapeRow]) -> Result<Vec<Entry>, AllocErro
 }
 
 // Whether two rows share parent and function. In the order they would be neighbours.
-pub fn has_twins(order: &[Entry]) -> bool
+pub(crate) fn has_twins(order: &[Entry]) -> bool
     ensures { λ r. ⌜ When r (Twins (now (order .entry))) (Twins (now (order .entry)) → ⊥) ⌝ }
 {
     for k in 1..order.len() {
@@ -65,7 +65,11 @@ pub fn has_twins(order: &[Entry]) -> bool
 }
 
 // For each row the place in the order where its children begin, and the order's length where it has none.
-pub fn starts_of(heap: Global, order: &[Entry], rows: usize) -> Result<Vec<usize>, AllocError>
+pub(crate) fn starts_of(
+    heap: Global,
+    order: &[Entry],
+    rows: usize,
+) -> Result<Vec<usize>, AllocError>
     requires { ⌜ ((k : ℕ) → k < length (now order) → entry-at (now order) k .parent < rows) ⌝ }
     ensures long { λ r. ⌜ made r (λ v. vec-len v ≡ rows) ⌝ }
     ensures each { λ r. ⌜ made r (λ v. (i : ℕ) → i < rows → Begins (now (order .entry)) i (getD (vec-items v) i 0)) ⌝ }

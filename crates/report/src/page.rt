@@ -1,10 +1,9 @@
 // The printed page: one line for each row of the outline, and a footer; or one line that says where reading stopped.
 ghost use mathlib.Core.Path.{_≡_};
-ghost use mathlib.Core.List.{List, [], _∷_, _++_};
-ghost use Rattle.std.specs.declared.option.Option.the-variants.{Some, None};
+ghost use Rattle.std.specs.declared.option.Option.the-variants.{Some};
 ghost use Rattle.std.specs.Of.String.{string-bytes};
 ghost use Rattle.std.specs.Vec.{made};
-ghost use Rattle.report.specs.Text.{name-text, line-text, footer-text, stop-text, lines-text, page-bytes, ended};
+ghost use Rattle.report.specs.Text.{name-text, line-text, footer-text, stop-text, page-bytes, ended};
 use std::alloc::AllocError;
 use std::alloc::Global;
 use std::fmt;

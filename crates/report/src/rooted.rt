@@ -1,6 +1,6 @@
 // What each row shows by itself: that the rows hang together below one root.
 ghost use mathlib.Core.Path.{_≡_};
-ghost use Prim.Native.Nat.{ℕ, _+_, _<_, _≤_};
+ghost use Prim.Native.Nat.{ℕ, _<_, _≤_};
 ghost use lib.ListN.{length, getD};
 ghost use Rattle.std.specs.Orderings.{Decides, When};
 ghost use Rattle.std.specs.Of.Vec.{vec-items, vec-len};
@@ -10,13 +10,14 @@ use rows::shape::ShapeRow;
 use std::alloc::AllocError;
 use std::alloc::Global;
 
-// A row's number is kept in 16 bits, and one more than the last still fits.
+// A row's number is kept in 16 bits, and so is the number of the rows.
 const MOST_ROWS: usize = 65_535;
 
+// How many rows may stand above a row.
 const MOST_DEPTH: u16 = 512;
 
 // Whether the rows are those of a tree, but for their depths and for rows that share parent and function.
-pub fn is_rooted(shape: &[ShapeRow]) -> bool
+pub(crate) fn is_rooted(shape: &[ShapeRow]) -> bool
     ensures { λ r. ⌜ Decides r (IsRooted (now (shape .entry))) ⌝ }
 {
     if shape.is_empty() || shape.len() > MOST_ROWS {
@@ -34,7 +35,7 @@ pub fn is_rooted(shape: &[ShapeRow]) -> bool
 }
 
 // The depth of each row. A parent stands above its rows, so its depth is known when theirs are asked for.
-pub fn depths_of(heap: Global, shape: &[ShapeRow]) -> Result<Vec<u16>, AllocError>
+pub(crate) fn depths_of(heap: Global, shape: &[ShapeRow]) -> Result<Vec<u16>, AllocError>
     requires { ⌜ IsRooted (now shape) ⌝ }
     ensures long { λ r. ⌜ made r (λ v. vec-len v ≡ length (now (shape .entry))) ⌝ }
     ensures each { λ r. ⌜ made r (λ v. (i : ℕ) → i < length (now (shape .entry)) → getD (vec-items v) i 0 ≡ depth-of (now (shape .entry)) i) ⌝ }
@@ -49,7 +50,7 @@ pub fn depths_of(heap: Global, shape: &[ShapeRow]) -> Result<Vec<u16>, AllocErro
 }
 
 // Whether a depth passes the limit.
-pub fn too_deep(depths: &[u16]) -> bool
+pub(crate) fn too_deep(depths: &[u16]) -> bool
     ensures { λ r. ⌜ When r ((i : ℕ) × (i < length (now (depths .entry))) × (512 < getD (now (depths .entry)) i 0)) ((i : ℕ) → i < length (now (depths .entry)) → getD (now (depths .entry)) i 0 ≤ 512) ⌝ }
 {
     for depth in depths {

@@ -1,5 +1,4 @@
 // The working tree of a shape: what the outline reads so that no step has to scan the rows.
-ghost use mathlib.Core.Path.{_≡_};
 ghost use Rattle.std.specs.Results.{Cases};
 ghost use Rattle.rows.specs.ShapeColumn.{IsShape};
 ghost use Rattle.report.specs.Answer.{TreeOf, Unmade};
@@ -16,7 +15,7 @@ use rows::shape::ShapeRow;
 use std::alloc::Global;
 
 #[derive(Drop)]
-pub struct Tree {
+pub(crate) struct Tree {
     // the rows from 1 on, by parent and then by function
     pub order: Vec<Entry>,
     // for each row the place in the order where its children begin
@@ -26,7 +25,7 @@ pub struct Tree {
 }
 
 // The tree of a shape, or a refusal.
-pub fn tree_of(heap: Global, shape: &[ShapeRow]) -> Result<Tree, OutlineError>
+pub(crate) fn tree_of(heap: Global, shape: &[ShapeRow]) -> Result<Tree, OutlineError>
     ensures { λ r. ⌜ Cases r (λ t. IsShape (now (shape .entry)) × TreeOf (now (shape .entry)) t) (λ e. Unmade (now (shape .entry)) e) ⌝ }
 {
     if !is_rooted(shape) {

@@ -33,7 +33,7 @@ pub fn value_of<M: Metric>(rows: &[Row<M>], at: usize) -> M
 }
 
 // The first row of the chain at place i, plus 1.
-pub fn head_of<M>(rows: &[Row<M>], i: usize) -> usize
+pub(crate) fn head_of<M>(rows: &[Row<M>], i: usize) -> usize
     requires { ⌜ i < length (now rows) ⌝ }
     ensures { λ r. ⌜ r ≡ getD (heads (now (rows .entry))) i 0 ⌝ }
 {
@@ -41,7 +41,7 @@ pub fn head_of<M>(rows: &[Row<M>], i: usize) -> usize
 }
 
 // The row after i in its chain, plus 1.
-pub fn next_of<M>(rows: &[Row<M>], i: usize) -> usize
+pub(crate) fn next_of<M>(rows: &[Row<M>], i: usize) -> usize
     requires { ⌜ i < length (now rows) ⌝ }
     ensures { λ r. ⌜ r ≡ getD (links (now (rows .entry))) i 0 ⌝ }
 {
@@ -49,7 +49,7 @@ pub fn next_of<M>(rows: &[Row<M>], i: usize) -> usize
 }
 
 // Keeps where the row i went.
-pub fn note<M: Metric>(rows: &mut [Row<M>], i: usize, to: usize)
+pub(crate) fn note<M: Metric>(rows: &mut [Row<M>], i: usize, to: usize)
     requires row { ⌜ i < length (now rows) ⌝ }
     requires small { ⌜ to ≤ 65535 ⌝ }
     ensures same { λ _. ⌜ shapes (now (rows .exit)) ≡ shapes (now (rows .entry)) ⌝ }
@@ -61,7 +61,7 @@ pub fn note<M: Metric>(rows: &mut [Row<M>], i: usize, to: usize)
 }
 
 // Sets the value of the row i.
-pub fn set_value<M: Metric>(rows: &mut [Row<M>], i: usize, value: M)
+pub(crate) fn set_value<M: Metric>(rows: &mut [Row<M>], i: usize, value: M)
     requires { ⌜ i < length (now rows) ⌝ }
     ensures same { λ _. ⌜ shapes (now (rows .exit)) ≡ shapes (now (rows .entry)) ⌝ }
     ensures held { λ _. ⌜ values means (now (rows .exit)) ≡ set (values means (now (rows .entry))) i (means value) ⌝ }
@@ -72,7 +72,7 @@ pub fn set_value<M: Metric>(rows: &mut [Row<M>], i: usize, value: M)
 }
 
 // Makes `first`, which is a row plus 1, the first of the chain at place i.
-pub fn set_head<M: Metric>(rows: &mut [Row<M>], i: usize, first: usize)
+pub(crate) fn set_head<M: Metric>(rows: &mut [Row<M>], i: usize, first: usize)
     requires row { ⌜ i < length (now rows) ⌝ }
     requires small { ⌜ first ≤ 65535 ⌝ }
     ensures same { λ _. ⌜ shapes (now (rows .exit)) ≡ shapes (now (rows .entry)) ⌝ }
@@ -85,7 +85,7 @@ pub fn set_head<M: Metric>(rows: &mut [Row<M>], i: usize, first: usize)
 }
 
 // Puts `after`, which is a row plus 1, after the row i in its chain.
-pub fn set_next<M: Metric>(rows: &mut [Row<M>], i: usize, after: usize)
+pub(crate) fn set_next<M: Metric>(rows: &mut [Row<M>], i: usize, after: usize)
     requires row { ⌜ i < length (now rows) ⌝ }
     requires small { ⌜ after ≤ 65535 ⌝ }
     ensures same { λ _. ⌜ shapes (now (rows .exit)) ≡ shapes (now (rows .entry)) ⌝ }
@@ -98,7 +98,7 @@ pub fn set_next<M: Metric>(rows: &mut [Row<M>], i: usize, after: usize)
 }
 
 // Writes the row n with the unit as its value; its mark and both of its links stay.
-pub fn put<M: Metric>(
+pub(crate) fn put<M: Metric>(
     rows: &mut [Row<M>],
     n: usize,
     level: usize,

@@ -40,7 +40,7 @@ pub fn clear<M: Metric>(rows: &mut [Row<M>])
 }
 
 // Puts the row n, which comes after those in their chains, into its own.
-pub fn link<M: Metric>(rows: &mut [Row<M>], n: usize)
+pub(crate) fn link<M: Metric>(rows: &mut [Row<M>], n: usize)
     requires room { ⌜ n < length (now rows) ⌝ }
     requires few { ⌜ length (now rows) ≤ 65535 ⌝ }
     requires indexed { ⌜ Indexed (shapes (now rows)) (heads (now rows)) (links (now rows)) n ⌝ }
@@ -79,7 +79,7 @@ pub fn push<M: Metric>(
 }
 
 // The row of the function below `up` among the first `count` rows, or `count` where there is none.
-pub fn child<M>(rows: &[Row<M>], count: usize, up: usize, function: u16) -> usize
+pub(crate) fn child<M>(rows: &[Row<M>], count: usize, up: usize, function: u16) -> usize
     requires fits { ⌜ count ≤ length (now rows) ⌝ }
     requires few { ⌜ length (now rows) ≤ 65535 ⌝ }
     requires below { ⌜ up < count ⌝ }

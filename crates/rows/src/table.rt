@@ -15,7 +15,7 @@ use crate::row::Row;
 use metrics::metric::Metric;
 
 // The row of the function below `up`, made with the unit where there is none.
-pub fn place<M: Metric>(rows: &mut [Row<M>], count: usize, up: usize, function: u16) -> usize
+pub(crate) fn place<M: Metric>(rows: &mut [Row<M>], count: usize, up: usize, function: u16) -> usize
     requires fits { ⌜ count < length (now rows) ⌝ }
     requires few { ⌜ length (now rows) ≤ 65535 ⌝ }
     requires below { ⌜ up < count ⌝ }
@@ -35,7 +35,7 @@ pub fn place<M: Metric>(rows: &mut [Row<M>], count: usize, up: usize, function: 
 }
 
 // The same, where the path may be too long or the table full.
-pub fn reach<M: Metric>(
+pub(crate) fn reach<M: Metric>(
     rows: &mut [Row<M>],
     count: usize,
     up: usize,

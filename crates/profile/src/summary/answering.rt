@@ -36,7 +36,7 @@ impl<'a, M: Metric> Summary<'a, M> {
     pub fn row(&self, number: usize) -> Option<SummaryRow<M>>
         ensures { λ r. ⌜ Answers-row measure means (now (self .entry)) number r ⌝ }
     {
-        if number >= self.count {
+        if number >= self.row_count() {
             return None;
         }
         let seen = look(self.rows, number);

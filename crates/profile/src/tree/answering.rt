@@ -35,7 +35,7 @@ impl<'a, M: Metric> Tree<'a, M> {
     pub fn row(&self, number: usize) -> Option<TreeRow<M>>
         ensures { λ r. ⌜ Answers-row measure means (now (self .entry)) number r ⌝ }
     {
-        if number >= self.count {
+        if number >= self.row_count() {
             return None;
         }
         let seen = look(self.rows, number);
