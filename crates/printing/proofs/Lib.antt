@@ -1,2 +1,3 @@
 pub mod Few
+pub mod Rows
 pub mod Printing

@@ -5,6 +5,7 @@ ghost use lib.ListN.{length};
 ghost use Rattle.std.specs.declared.option.Option.the-variants.{Some, None};
 ghost use Rattle.std.specs.Of.Vec.{vec-items, vec-len};
 ghost use Rattle.std.specs.Vec.{made};
+ghost use Rattle.std.specs.shelf.Lists.{All};
 ghost use Rattle.rows.specs.ShapeColumn.{IsShape};
 ghost use Rattle.profile.specs.declared.reading.Stop.the-variants.{Limit};
 ghost use Rattle.printing.specs.Prints.{named, stopping, Prints, Shows, too-long};
@@ -42,8 +43,11 @@ use trace::text::TextSource;
 // What is measured for a page: calls beside work.
 pub type Cost = Pair<Calls, Work>;
 
-// A longer trace is not read (15).
+// A longer trace is not read.
 const MOST_BYTES: usize = 65_536;
+
+// The cause of a stop where the trace is longer.
+const INPUT_TOO_LONG: u8 = 15;
 
 // More records than a trace of so many bytes can hold, so that a read-in never stops at its limit.
 const MOST_RECORDS: usize = 65_538;
@@ -108,7 +112,7 @@ fn shape_of(heap: Global, tree: &Tree<'_, Cost>) -> Result<Vec<ShapeRow>, AllocE
 
 // The tree's rows in outline order.
 fn order_of(heap: Global, tree: &Tree<'_, Cost>) -> Result<Vec<Line>, AllocError>
-    ensures { λ r. ⌜ made r (λ v. vec-len v ≡ now (tree .entry) .count) ⌝ }
+    ensures { λ r. ⌜ made r (λ v. (vec-len v ≡ now (tree .entry) .count) × All (λ line. line .row < now (tree .entry) .count) (vec-items v)) ⌝ }
 {
     let shape = shape_of(heap, tree)?;
     let mut order = vec![in heap; Line { row: 0, depth: 0 }; shape.len()]?;
@@ -143,14 +147,17 @@ fn page_line(depth: u16, row: TreeRow<Cost>, inclusive: Cost) -> PageLine {
 }
 
 // The lines of the tree's rows, in outline order.
-fn lines_of(heap: Global, tree: &Tree<'_, Cost>) -> Result<Vec<PageLine>, AllocError> {
+fn lines_of(heap: Global, tree: &Tree<'_, Cost>) -> Result<Vec<PageLine>, AllocError>
+    ensures { λ r. ⌜ made r (λ v. vec-len v ≡ now (tree .entry) .count) ⌝ }
+{
     let order = order_of(heap, tree)?;
     let inclusive = inclusive_of(heap, tree)?;
     let mut lines = Vec::new(heap);
     for line in order.iter() {
         let at = line.row as usize;
-        if let (Some(row), Some(all)) = (tree.row(at), inclusive.get(at)) {
-            lines.push(page_line(line.depth, row, *all))?;
+        match tree.row(at) {
+            Some(row) => lines.push(page_line(line.depth, row, inclusive[at]))?,
+            None => unreachable(),
         }
     }
     Ok(lines)
@@ -188,7 +195,7 @@ pub fn print_trace(heap: Global, text: &[u8]) -> Result<Printed, AllocError>
         return stopped(
             heap,
             &StopLine {
-                cause: 15,
+                cause: INPUT_TOO_LONG,
                 place: MOST_BYTES,
                 passed: 0,
             },
