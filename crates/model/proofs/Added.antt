@@ -11,16 +11,16 @@ use Rattle.trace.specs.declared.record.Record.the-variants.{Call, Return, Unwin
 use Rattle.model.specs.Positions.{Position, start, move, ends, same, moved}
 use Rattle.metrics.specs.Measures.{Measure, Laws}
 use Rattle.metrics.specs.Joins.{joins, over, calling}
-use Rattle.model.specs.Summaries.{Summary, summary, mark, marks, value-at, rooted, added, Adds, any-of, Shown, By-rows, Joins-rows, source, meeting, joined}
+use Rattle.model.specs.Summaries.{Summary, summary, booking, bookings, value-at, rooted, added, Adds, any-of, Shown, By-rows, Joins-rows, source, meeting, joined}
 use Rattle.model.proofs.Moves.{ends-append}
 use Rattle.model.proofs.Totals.{unit-right, joins-append, over-same}
-use Rattle.model.proofs.Meeting.{marks-append, meeting-rows}
+use Rattle.model.proofs.Meeting.{bookings-append, meeting-rows}
 use Rattle.model.proofs.Rows.{calling-laws, alike, rooted-parts, rooted-from}
 use Rattle.model.proofs.Trees.{move-up}
 
 module _ {M : Type 0} {m : Measure M} (laws : Laws m) where
-  value-more : (xs : List Record) (r : Record) (x : Position) → value-at m start (xs ++ (r ∷ [])) x ≡ m .join (value-at m start xs x) (joins m (same x) (mark m (ends start xs) r ++ []))
-  value-more xs r x = ap (joins m (same x)) (marks-append m start xs (r ∷ [])) ∙ joins-append laws (same x) (marks m start xs) (marks m (ends start xs) (r ∷ []))
+  value-more : (xs : List Record) (r : Record) (x : Position) → value-at m start (xs ++ (r ∷ [])) x ≡ m .join (value-at m start xs x) (joins m (same x) (booking m (ends start xs) r ++ []))
+  value-more xs r x = ap (joins m (same x)) (bookings-append m start xs (r ∷ [])) ∙ joins-append laws (same x) (bookings m start xs) (bookings m (ends start xs) (r ∷ []))
 
   lone : (b : Bool) (a v : M) → m .join a (cond b (m .join v (m .none)) (m .none)) ≡ cond b (m .join a v) a
   lone true a v = ap (m .join a) (unit-right laws v)
@@ -50,13 +50,13 @@ module _ {M : Type 0} {m : Measure M} (laws : Laws m) (xs : List Record) where
   called : Position → Bool
   called x = value-at calling start xs x
 
-  row-by : (r : Record) (x : Position) → (rooted (ends start (xs ++ (r ∷ [])) .level) x || value-at calling start (xs ++ (r ∷ [])) x) ≡ (rooted (move e r .level) x || (value-at calling start xs x || joins calling (same x) (mark calling e r ++ [])))
+  row-by : (r : Record) (x : Position) → (rooted (ends start (xs ++ (r ∷ [])) .level) x || value-at calling start (xs ++ (r ∷ [])) x) ≡ (rooted (move e r .level) x || (value-at calling start xs x || joins calling (same x) (booking calling e r ++ [])))
   row-by r x = ap₂ (λ p w. rooted (p .level) x || w) (ends-append start xs (r ∷ [])) (value-more calling-laws xs r x)
 
-  row-kept : (r : Record) (x : Position) (b : Bool) → joins calling (same x) (mark calling e r ++ []) ≡ b → (rooted (ends start (xs ++ (r ∷ [])) .level) x || value-at calling start (xs ++ (r ∷ [])) x) ≡ ((rooted (move e r .level) x || value-at calling start xs x) || b)
+  row-kept : (r : Record) (x : Position) (b : Bool) → joins calling (same x) (booking calling e r ++ []) ≡ b → (rooted (ends start (xs ++ (r ∷ [])) .level) x || value-at calling start (xs ++ (r ∷ [])) x) ≡ ((rooted (move e r .level) x || value-at calling start xs x) || b)
   row-kept r x b h = row-by r x ∙ sym (or-assoc (rooted (move e r .level) x) (value-at calling start xs x) _) ∙ ap (λ w. (rooted (move e r .level) x || value-at calling start xs x) || w) h
 
-  row-up : (r : Record) (x : Position) → joins calling (same x) (mark calling e r ++ []) ≡ false → (rooted (ends start (xs ++ (r ∷ [])) .level) x || value-at calling start (xs ++ (r ∷ [])) x) ≡ ((rooted (e .level) x || value-at calling start xs x) || rooted (move e r .level) x)
+  row-up : (r : Record) (x : Position) → joins calling (same x) (booking calling e r ++ []) ≡ false → (rooted (ends start (xs ++ (r ∷ [])) .level) x || value-at calling start (xs ++ (r ∷ [])) x) ≡ ((rooted (e .level) x || value-at calling start xs x) || rooted (move e r .level) x)
   row-up r x h = row-kept r x false h ∙ or-false _ ∙ rooted-more (e .level) (move e r .level) x (value-at calling start xs x) (move-up e r)
 
   pub adds-one : (r : Record) → summary m (xs ++ (r ∷ [])) ≡ added m (summary m xs) r

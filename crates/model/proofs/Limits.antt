@@ -14,7 +14,7 @@ use Rattle.trace.specs.declared.record.Record.the-variants.{Call, Return, Unwin
 use Rattle.model.specs.Positions.{Path, Position, at, start, move, ends, same, same-path}
 use Rattle.metrics.specs.Measures.{Measure}
 use Rattle.metrics.specs.Joins.{joins, calling}
-use Rattle.model.specs.Summaries.{summary, mark, marks, value-at, rooted}
+use Rattle.model.specs.Summaries.{summary, booking, bookings, value-at, rooted}
 use Rattle.model.specs.Limits.{among, apart, lean, roots, calls-of, rows-of, count, long-one, deep, Counted}
 use Rattle.model.proofs.Moves.{same-true, same-refl}
 use Rattle.model.proofs.Rows.{alike, rooted-parts, rooted-from}

@@ -13,26 +13,26 @@ use Rattle.trace.specs.declared.record.Record.the-variants.{Call, Return, Unwin
 use Rattle.model.specs.Positions.{Path, Position, at, start, move, ends, same, same-path, moved}
 use Rattle.metrics.specs.Measures.{Measure, Laws}
 use Rattle.metrics.specs.Joins.{joins, over}
-use Rattle.model.specs.Summaries.{mark, marks, value-at, source, meeting}
+use Rattle.model.specs.Summaries.{booking, bookings, value-at, source, meeting}
 use Rattle.model.proofs.Moves.{same-refl, same-true, moved-start, moved-move, source-of, source-level}
 use Rattle.model.proofs.Totals.{rekeyed, rekeyed-append, joins-rekeyed, over-same, joins-cons, joins-append, over-join, over-none, over-one, unit-right}
 
--- a list of marks from a position, and from where that goes
-pub marks-append : {M : Type 0} (m : Measure M) (p : Position) (xs ys : List Record) → marks m p (xs ++ ys) ≡ marks m p xs ++ marks m (ends p xs) ys
-marks-append m p [] ys = refl
-marks-append m p (x ∷ xs) ys = ap (λ r. mark m p x ++ r) (marks-append m (move p x) xs ys) ∙ sym (append-assoc (mark m p x) (marks m (move p x) xs) _)
+-- a list of bookings from a position, and from where that goes
+pub bookings-append : {M : Type 0} (m : Measure M) (p : Position) (xs ys : List Record) → bookings m p (xs ++ ys) ≡ bookings m p xs ++ bookings m (ends p xs) ys
+bookings-append m p [] ys = refl
+bookings-append m p (x ∷ xs) ys = ap (λ r. booking m p x ++ r) (bookings-append m (move p x) xs ys) ∙ sym (append-assoc (booking m p x) (bookings m (move p x) xs) _)
 
-mark-moved : {M : Type 0} (m : Measure M) (e p : Position) (r : Record) → mark m (moved e p) r ≡ rekeyed (moved e) (mark m p r)
-mark-moved m e p (Call f) = refl
-mark-moved m e p Return = refl
-mark-moved m e p (Unwind n) = refl
-mark-moved m e p (Sample s) = refl
+booking-moved : {M : Type 0} (m : Measure M) (e p : Position) (r : Record) → booking m (moved e p) r ≡ rekeyed (moved e) (booking m p r)
+booking-moved m e p (Call f) = refl
+booking-moved m e p Return = refl
+booking-moved m e p (Unwind n) = refl
+booking-moved m e p (Sample s) = refl
 
-pub marks-moved : {M : Type 0} (m : Measure M) (e p : Position) (xs : List Record) → marks m (moved e p) xs ≡ rekeyed (moved e) (marks m p xs)
-marks-moved m e p [] = refl
-marks-moved m e p (x ∷ xs) =
-    ap₂ (λ r s. r ++ s) (mark-moved m e p x) (ap (λ q. marks m q xs) (sym (moved-move e p x)) ∙ marks-moved m e (move p x) xs)
-    ∙ sym (rekeyed-append (moved e) (mark m p x) (marks m (move p x) xs))
+pub bookings-moved : {M : Type 0} (m : Measure M) (e p : Position) (xs : List Record) → bookings m (moved e p) xs ≡ rekeyed (moved e) (bookings m p xs)
+bookings-moved m e p [] = refl
+bookings-moved m e p (x ∷ xs) =
+    ap₂ (λ r s. r ++ s) (booking-moved m e p x) (ap (λ q. bookings m q xs) (sym (moved-move e p x)) ∙ bookings-moved m e (move p x) xs)
+    ∙ sym (rekeyed-append (moved e) (booking m p x) (bookings m (move p x) xs))
 
 module _ {M : Type 0} {m : Measure M} (laws : Laws m) (e y : Position) where
   -- what a row at k with the value v brings to y, by the levels
@@ -91,13 +91,13 @@ module _ {M : Type 0} {m : Measure M} (laws : Laws m) (e y : Position) where
   -- the records of a list that starts at e
   pub value-moved : (ys : List Record) → value-at m e ys y ≡ meeting m e (value-at m start ys) y
   value-moved ys =
-      ap (λ q. joins m (same y) (marks m q ys)) (sym (moved-start e))
-      ∙ ap (joins m (same y)) (marks-moved m e start ys)
-      ∙ joins-rekeyed m (moved e) (same y) (marks m start ys)
-      ∙ sym (meeting-rows (marks m start ys))
+      ap (λ q. joins m (same y) (bookings m q ys)) (sym (moved-start e))
+      ∙ ap (joins m (same y)) (bookings-moved m e start ys)
+      ∙ joins-rekeyed m (moved e) (same y) (bookings m start ys)
+      ∙ sym (meeting-rows (bookings m start ys))
 
 pub value-append : {M : Type 0} {m : Measure M} (laws : Laws m) (xs ys : List Record) (y : Position) → value-at m start (xs ++ ys) y ≡ m .join (value-at m start xs y) (meeting m (ends start xs) (value-at m start ys) y)
 value-append {m} laws xs ys y =
-    ap (joins m (same y)) (marks-append m start xs ys)
-    ∙ joins-append laws (same y) (marks m start xs) (marks m (ends start xs) ys)
+    ap (joins m (same y)) (bookings-append m start xs ys)
+    ∙ joins-append laws (same y) (bookings m start xs) (bookings m (ends start xs) ys)
     ∙ ap (m .join _) (value-moved laws (ends start xs) y ys)

@@ -15,19 +15,19 @@ use Rattle.trace.specs.declared.record.Record.the-variants.{Call, Return, Unwin
 use Rattle.model.specs.Positions.{Path, Position, at, start, move, ends, same}
 use Rattle.metrics.specs.Measures.{Measure, Laws}
 use Rattle.metrics.specs.Joins.{joins, calling}
-use Rattle.model.specs.Summaries.{Summary, summary, mark, marks, value-at, rooted, Prefixed, Prefixes}
+use Rattle.model.specs.Summaries.{Summary, summary, booking, bookings, value-at, rooted, Prefixed, Prefixes}
 use Rattle.model.proofs.Moves.{same-true, same-refl}
 use Rattle.model.proofs.Totals.{joins-append}
 use Rattle.model.proofs.Rows.{calling-laws, Known, Tail, move-known, joined-known, open-known, open-row, rooted-parts, rooted-from}
-use Rattle.model.proofs.Trees.{Below, move-up, ends-up, marks-below}
+use Rattle.model.proofs.Trees.{Below, move-up, ends-up, bookings-below}
 
 -- of a call's context the path without its last function is known
-call-shorter : (p : Position) (xs : List Record) (l f : ℕ) (q : Path) → value-at calling p xs (at l (f ∷ q)) ≡ true → Known p (marks calling p xs) (at l q)
+call-shorter : (p : Position) (xs : List Record) (l f : ℕ) (q : Path) → value-at calling p xs (at l (f ∷ q)) ≡ true → Known p (bookings calling p xs) (at l q)
 call-shorter p [] l f q h = absurd (both-ways false refl h)
 call-shorter p (x ∷ xs) l f q h =
     let z : Position = at l (f ∷ q) in
-    let rows = mark calling p x in
-    let more = marks calling (move p x) xs in
+    let rows = booking calling p x in
+    let more = bookings calling (move p x) xs in
     ⊎-elim
     (λ here. joined-known p rows more (at l q) (go x here))
     (λ later. ⊎-elim inl
@@ -40,7 +40,7 @@ call-shorter p (x ∷ xs) l f q h =
     tail : Position → Position
     tail y = at (y .level) (drop 1 (y .path))
 
-    go : (r : Record) → joins calling (same (at l (f ∷ q))) (mark calling p r) ≡ true → Known p (mark calling p r) (at l q)
+    go : (r : Record) → joins calling (same (at l (f ∷ q))) (booking calling p r) ≡ true → Known p (booking calling p r) (at l q)
     go (Call g) e =
         ⊎-elim
         (λ b. inr (inr (0, ap tail (same-true (at l (f ∷ q)) (move p (Call g)) b))))
@@ -69,10 +69,10 @@ prefixes-stand m xs = record {
       ⊎-elim
       (λ r. absurd (both-ways false refl (rooted-cons l f q r)))
       (λ c. ⊎-elim
-      (λ none. or-left _ _ (rooted-from _ (at l q) none (call-level _ (at l (f ∷ q)) (marks calling start xs) (marks-below calling start xs) c)))
+      (λ none. or-left _ _ (rooted-from _ (at l q) none (call-level _ (at l (f ∷ q)) (bookings calling start xs) (bookings-below calling start xs) c)))
       (⊎-elim
       (λ k. or-right (rooted (ends start xs .level) (at l q)) _ k)
-      (λ t. or-left _ _ (rooted-from _ (at l q) (ap (λ z. z .path) (t .1) ∙ drop-nil (t .0)) (call-level _ (at l (f ∷ q)) (marks calling start xs) (marks-below calling start xs) c))))
+      (λ t. or-left _ _ (rooted-from _ (at l q) (ap (λ z. z .path) (t .1) ∙ drop-nil (t .0)) (call-level _ (at l (f ∷ q)) (bookings calling start xs) (bookings-below calling start xs) c))))
       (call-shorter start xs l f q c))
       (or-cases _ _ h);
   opened = ⊎-elim

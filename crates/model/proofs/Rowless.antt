@@ -14,11 +14,11 @@ use Rattle.trace.specs.declared.record.Record.the-variants.{Call, Return, Unwin
 use Rattle.model.specs.Positions.{Path, Position, at, start, move, ends, same, same-path}
 use Rattle.metrics.specs.Measures.{Measure, Laws}
 use Rattle.metrics.specs.Joins.{joins, calling}
-use Rattle.model.specs.Summaries.{mark, marks, value-at, rooted, Rowless}
+use Rattle.model.specs.Summaries.{booking, bookings, value-at, rooted, Rowless}
 use Rattle.model.proofs.Moves.{same-true, same-path-true}
 use Rattle.model.proofs.Totals.{joins-append}
 use Rattle.model.proofs.Rows.{calling-laws, Tail, Known, move-known, rooted-from}
-use Rattle.model.proofs.Trees.{Below, marks-below}
+use Rattle.model.proofs.Trees.{Below, bookings-below}
 
 -- no row above the last level
 above-none : {M : Type 0} (m : Measure M) (n : ℕ) (x : Position) (rows : List (Position × M)) → Below n rows → n < x .level → joins m (same x) rows ≡ m .none
@@ -30,20 +30,20 @@ above-none m n x (r ∷ rows) b h =
     (cases-bool (same x (r .0)))
 
 module _ {M : Type 0} {m : Measure M} (laws : Laws m) (x : Position) (long : x .path ≡ [] → ⊥) where
-  mark-none : (p : Position) (r : Record) → joins calling (same x) (mark calling p r) ≡ false → (Tail p x → ⊥) → joins m (same x) (mark m p r) ≡ m .none
-  mark-none p (Call f) h t = ⊎-elim (λ is. absurd (both-ways _ h (ap (λ b. cond b true false) is))) (λ isnt. cond-false _ _ _ isnt) (cases-bool (same x (move p (Call f))))
-  mark-none p Return h t = refl
-  mark-none p (Unwind n) h t = refl
-  mark-none p (Sample s) h t = ⊎-elim (λ is. absurd (t (0, same-true x p is))) (λ isnt. cond-false _ _ _ isnt) (cases-bool (same x p))
+  booking-none : (p : Position) (r : Record) → joins calling (same x) (booking calling p r) ≡ false → (Tail p x → ⊥) → joins m (same x) (booking m p r) ≡ m .none
+  booking-none p (Call f) h t = ⊎-elim (λ is. absurd (both-ways _ h (ap (λ b. cond b true false) is))) (λ isnt. cond-false _ _ _ isnt) (cases-bool (same x (move p (Call f))))
+  booking-none p Return h t = refl
+  booking-none p (Unwind n) h t = refl
+  booking-none p (Sample s) h t = ⊎-elim (λ is. absurd (t (0, same-true x p is))) (λ isnt. cond-false _ _ _ isnt) (cases-bool (same x p))
 
   away : (p : Position) (xs : List Record) → value-at calling p xs x ≡ false → (Tail p x → ⊥) → value-at m p xs x ≡ m .none
   away p [] h t = refl
   away p (r ∷ rs) h t =
-      let parts = or-parts (joins calling (same x) (mark calling p r)) (value-at calling (move p r) rs x) (sym (joins-append calling-laws (same x) (mark calling p r) (marks calling (move p r) rs)) ∙ h) in
+      let parts = or-parts (joins calling (same x) (booking calling p r)) (value-at calling (move p r) rs x) (sym (joins-append calling-laws (same x) (booking calling p r) (bookings calling (move p r) rs)) ∙ h) in
       let on : Tail (move p r) x → ⊥ = λ u.
-      ⊎-elim long (⊎-elim (λ c. both-ways _ (parts .0) c) t) (subst (Known p (mark calling p r)) (sym (u .1)) (move-known p r (u .0))) in
-      joins-append laws (same x) (mark m p r) (marks m (move p r) rs)
-      ∙ ap (λ w. m .join w (value-at m (move p r) rs x)) (mark-none p r (parts .0) t)
+      ⊎-elim long (⊎-elim (λ c. both-ways _ (parts .0) c) t) (subst (Known p (booking calling p r)) (sym (u .1)) (move-known p r (u .0))) in
+      joins-append laws (same x) (booking m p r) (bookings m (move p r) rs)
+      ∙ ap (λ w. m .join w (value-at m (move p r) rs x)) (booking-none p r (parts .0) t)
       ∙ laws .unit _
       ∙ away (move p r) rs (parts .1) on
 
@@ -55,7 +55,7 @@ rowless-stands {m} laws xs x h =
     (λ root.
     let none : x .path ≡ [] = same-path-true (x .path) [] root in
     ⊎-elim
-    (λ above. above-none m n x (marks m start xs) (marks-below m start xs) above)
+    (λ above. above-none m n x (bookings m start xs) (bookings-below m start xs) above)
     (λ low. absurd (both-ways _ (parts .0) (rooted-from n x none low)))
     (cases-lt n (x .level)))
     (λ off.

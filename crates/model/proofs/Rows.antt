@@ -15,7 +15,7 @@ use Rattle.trace.specs.declared.record.Record.the-variants.{Call, Return, Unwin
 use Rattle.model.specs.Positions.{Path, Position, at, start, returned, unwound, move, ends, same, same-path, moved}
 use Rattle.metrics.specs.Measures.{Measure, Laws}
 use Rattle.metrics.specs.Joins.{joins, over, calling}
-use Rattle.model.specs.Summaries.{mark, marks, value-at, rooted, source, meeting}
+use Rattle.model.specs.Summaries.{booking, bookings, value-at, rooted, source, meeting}
 use Rattle.model.proofs.Moves.{same-refl, same-true, same-path-true, same-path-refl, source-of, source-level, ends-append, moved-start, moved-ends}
 use Rattle.model.proofs.Totals.{over-same, joins-append, over-join}
 use Rattle.model.proofs.Meeting.{value-append}
@@ -86,7 +86,7 @@ unwound-tail (suc n) p k =
 abbrev pub Known : Position → List (Position × Bool) → Position → Type 0
 Known p rows z = (z .path ≡ []) ⊎ ((joins calling (same z) rows ≡ true) ⊎ Tail p z)
 
-pub move-known : (p : Position) (r : Record) (k : ℕ) → Known p (mark calling p r) (at (move p r .level) (drop k (move p r .path)))
+pub move-known : (p : Position) (r : Record) (k : ℕ) → Known p (booking calling p r) (at (move p r .level) (drop k (move p r .path)))
 move-known p (Call f) zero = inr (inl (cond-true _ _ _ (same-refl (move p (Call f)))))
 move-known p (Call f) (suc k) = inr (inr (k, refl))
 move-known p Return k = ⊎-elim inl (λ t. inr (inr t)) (returned-tail (p .level) (p .path) k)
@@ -97,12 +97,12 @@ pub joined-known : (p : Position) (rows more : List (Position × Bool)) (z : Pos
 joined-known p rows more z =
     ⊎-elim inl (⊎-elim (λ c. inr (inl (joins-append calling-laws (same z) rows more ∙ or-left _ _ c))) (λ t. inr (inr t)))
 
-pub open-known : (p : Position) (xs : List Record) (k : ℕ) → Known p (marks calling p xs) (at (ends p xs .level) (drop k (ends p xs .path)))
+pub open-known : (p : Position) (xs : List Record) (k : ℕ) → Known p (bookings calling p xs) (at (ends p xs .level) (drop k (ends p xs .path)))
 open-known p [] k = inr (inr (k, refl))
 open-known p (x ∷ xs) k =
     let z : Position = at (ends (move p x) xs .level) (drop k (ends (move p x) xs .path)) in
-    let rows = mark calling p x in
-    let more = marks calling (move p x) xs in
+    let rows = booking calling p x in
+    let more = bookings calling (move p x) xs in
     ⊎-elim inl
     (⊎-elim
     (λ c. inr (inl (joins-append calling-laws (same z) rows more ∙ or-right (joins calling (same z) rows) _ c)))

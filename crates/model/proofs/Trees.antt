@@ -13,7 +13,7 @@ use Rattle.trace.specs.declared.record.Record.the-variants.{Call, Return, Unwin
 use Rattle.model.specs.Positions.{Path, Position, at, start, returned, unwound, move, ends, same, same-path}
 use Rattle.metrics.specs.Measures.{Measure, Laws}
 use Rattle.metrics.specs.Joins.{joins, over, calling}
-use Rattle.model.specs.Summaries.{mark, marks, value-at, rooted}
+use Rattle.model.specs.Summaries.{booking, bookings, value-at, rooted}
 use Rattle.model.specs.Trees.{tree, begins, inclusive, Shows, Values, Paths, Inclusive}
 use Rattle.model.proofs.Moves.{same-path-refl, same-path-true}
 use Rattle.model.proofs.Totals.{over-same, joins-cons, over-join, over-none, over-one, rekeyed, joins-rekeyed}
@@ -43,12 +43,12 @@ pub ends-up : (p : Position) (xs : List Record) → p .level ≤ ends p xs .leve
 ends-up p [] = le-refl _
 ends-up p (x ∷ xs) = le-trans (move-up p x) (ends-up (move p x) xs)
 
-pub marks-below : {M : Type 0} (m : Measure M) (p : Position) (xs : List Record) → Below (ends p xs .level) (marks m p xs)
-marks-below m p [] = tt
-marks-below m p (Call f ∷ xs) = (ends-up (move p (Call f)) xs, marks-below m _ xs)
-marks-below m p (Return ∷ xs) = marks-below m _ xs
-marks-below m p (Unwind n ∷ xs) = marks-below m _ xs
-marks-below m p (Sample s ∷ xs) = (ends-up p xs, marks-below m p xs)
+pub bookings-below : {M : Type 0} (m : Measure M) (p : Position) (xs : List Record) → Below (ends p xs .level) (bookings m p xs)
+bookings-below m p [] = tt
+bookings-below m p (Call f ∷ xs) = (ends-up (move p (Call f)) xs, bookings-below m _ xs)
+bookings-below m p (Return ∷ xs) = bookings-below m _ xs
+bookings-below m p (Unwind n ∷ xs) = bookings-below m _ xs
+bookings-below m p (Sample s ∷ xs) = (ends-up p xs, bookings-below m p xs)
 
 module _ {M : Type 0} {m : Measure M} (laws : Laws m) where
   one-level : (n l : ℕ) (b : Bool) (v : M) → l ≤ n → over m n (λ j. cond (eqb j l && b) v (m .none)) ≡ cond b v (m .none)
@@ -65,13 +65,13 @@ module _ {M : Type 0} {m : Measure M} (laws : Laws m) where
       ∙ sym (joins-cons laws (λ x. same-path q (x .path)) r rows)
 
   pub values-stand : Values m
-  values-stand xs q = levels-rows (ends start xs .level) q (marks m start xs) (marks-below m start xs)
+  values-stand xs q = levels-rows (ends start xs .level) q (bookings m start xs) (bookings-below m start xs)
 
   pub inclusive-stands : Inclusive m
   inclusive-stands xs rows shows q =
-      same-joins laws same-path same-path-refl same-path-true rows (rekeyed (λ x. x .path) (marks m start xs))
-      (λ k. shows k ∙ values-stand xs k ∙ sym (joins-rekeyed m (λ x. x .path) (same-path k) (marks m start xs))) (begins q)
-      ∙ joins-rekeyed m (λ x. x .path) (begins q) (marks m start xs)
+      same-joins laws same-path same-path-refl same-path-true rows (rekeyed (λ x. x .path) (bookings m start xs))
+      (λ k. shows k ∙ values-stand xs k ∙ sym (joins-rekeyed m (λ x. x .path) (same-path k) (bookings m start xs))) (begins q)
+      ∙ joins-rekeyed m (λ x. x .path) (begins q) (bookings m start xs)
 
 root-level : (n : ℕ) (q : Path) → over calling n (λ j. rooted n (at j q)) ≡ same-path q []
 root-level n q =
@@ -84,4 +84,4 @@ pub paths-stand : {M : Type 0} (m : Measure M) → Paths m
 paths-stand m xs q =
     let n : ℕ = ends start xs .level in
     over-join calling-laws n (λ j. rooted n (at j q)) (λ j. value-at calling start xs (at j q))
-    ∙ ap₂ _||_ (root-level n q) (levels-rows calling-laws n q (marks calling start xs) (marks-below calling start xs))
+    ∙ ap₂ _||_ (root-level n q) (levels-rows calling-laws n q (bookings calling start xs) (bookings-below calling start xs))

@@ -13,15 +13,15 @@ use Rattle.metrics.specs.Joins.{joins, gathered, over, calling}
 
 -- A record's context with its value: a call's context is the position after it, a sample's the position at it;
 -- returns and unwinds have none.
-abbrev pub mark : {M : Type 0} → Measure M → Position → Record → List (Position × M)
-mark m p (Call f) = (move p (Call f), m .of-call) ∷ []
-mark m p Return = []
-mark m p (Unwind n) = []
-mark m p (Sample s) = (p, m .of-sample s) ∷ []
+abbrev pub booking : {M : Type 0} → Measure M → Position → Record → List (Position × M)
+booking m p (Call f) = (move p (Call f), m .of-call) ∷ []
+booking m p Return = []
+booking m p (Unwind n) = []
+booking m p (Sample s) = (p, m .of-sample s) ∷ []
 
-abbrev pub marks : {M : Type 0} → Measure M → Position → List Record → List (Position × M)
-marks m p [] = []
-marks m p (r ∷ rs) = mark m p r ++ marks m (move p r) rs
+abbrev pub bookings : {M : Type 0} → Measure M → Position → List Record → List (Position × M)
+bookings m p [] = []
+bookings m p (r ∷ rs) = booking m p r ++ bookings m (move p r) rs
 
 pub record Summary (M : Type 0) : Type 0 where
   -- the final level, and the open path
@@ -33,11 +33,11 @@ pub record Summary (M : Type 0) : Type 0 where
 
 -- the join of the values of the records at exactly x
 abbrev pub value-at : {M : Type 0} → Measure M → Position → List Record → Position → M
-value-at m p xs x = joins m (same x) (marks m p xs)
+value-at m p xs x = joins m (same x) (bookings m p xs)
 
 -- which is their join in list order, from the unit
 abbrev pub In-order : {M : Type 0} → Measure M → Type 0
-In-order m = (xs : List Record) (x : Position) → gathered m (m .none) (same x) (marks m start xs) ≡ value-at m start xs x
+In-order m = (xs : List Record) (x : Position) → gathered m (m .none) (same x) (bookings m start xs) ≡ value-at m start xs x
 
 -- x has the empty path and a level of 0 to l
 abbrev pub rooted : ℕ → Position → Bool

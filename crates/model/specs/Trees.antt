@@ -8,7 +8,7 @@ use Rattle.trace.specs.declared.record.Record.{Record}
 use Rattle.model.specs.Positions.{Path, Position, at, start, same-path}
 use Rattle.metrics.specs.Measures.{Measure}
 use Rattle.metrics.specs.Joins.{joins, over, calling}
-use Rattle.model.specs.Summaries.{Summary, summary, marks}
+use Rattle.model.specs.Summaries.{Summary, summary, bookings}
 
 -- in a tree a context is its path alone
 pub record Tree (M : Type 0) : Type 0 where
@@ -45,11 +45,11 @@ Shows m rows t = (q : Path) → joins m (same-path q) rows ≡ t .value q
 -- The value at a path is the join over exactly the records whose context has that path, on any level; a path has a row if it is
 -- empty or a call's.
 abbrev pub Values : {M : Type 0} → Measure M → Type 0
-Values m = (xs : List Record) (q : Path) → tree m xs .value q ≡ joins m (λ x. same-path q (x .path)) (marks m start xs)
+Values m = (xs : List Record) (q : Path) → tree m xs .value q ≡ joins m (λ x. same-path q (x .path)) (bookings m start xs)
 
 abbrev pub Paths : {M : Type 0} → Measure M → Type 0
-Paths m = (xs : List Record) (q : Path) → tree m xs .row q ≡ (same-path q [] || joins calling (λ x. same-path q (x .path)) (marks calling start xs))
+Paths m = (xs : List Record) (q : Path) → tree m xs .row q ≡ (same-path q [] || joins calling (λ x. same-path q (x .path)) (bookings calling start xs))
 
 -- The inclusive value is the join over exactly the records whose context's path begins with q.
 abbrev pub Inclusive : {M : Type 0} → Measure M → Type 0
-Inclusive {M} m = (xs : List Record) (rows : List (Path × M)) → Shows m rows (tree m xs) → (q : Path) → inclusive m rows q ≡ joins m (λ x. begins q (x .path)) (marks m start xs)
+Inclusive {M} m = (xs : List Record) (rows : List (Path × M)) → Shows m rows (tree m xs) → (q : Path) → inclusive m rows q ≡ joins m (λ x. begins q (x .path)) (bookings m start xs)

@@ -19,7 +19,7 @@ use Rattle.model.specs.Positions.{Path, Position, at, same, returned, unwound, 
 use Rattle.metrics.specs.Measures.{Measure, Laws}
 use Rattle.metrics.specs.Joins.{joins}
 use Rattle.model.specs.Summaries.{Summary, any-of, added}
-use Rattle.rows.specs.Shapes.{Shape, blank, kid, root}
+use Rattle.rows.specs.Shapes.{Shape, blank, child, root}
 use Rattle.rows.specs.Sound.{Table, Sound}
 use Rattle.rows.specs.Index.{Found}
 use Rattle.rows.specs.Steps.{Reached, Entered, Refused, grown, grownValues}
@@ -28,8 +28,8 @@ use Rattle.rows.specs.Gains.{Gains}
 use Rattle.trace.specs.Ranges.{from-to, in-range, InRange}
 use Rattle.profile.specs.Given.{Held, need, step, Accepts, Refuses, Given}
 use Rattle.rows.proofs.Sounds.{Alike, put-alike}
-use Rattle.rows.proofs.Readings.{context-kid, context-root, depth-is, any-at}
-use Rattle.rows.proofs.Bridge.{gains-reached, gains-root, none-there, called, sampled, returned-kid, returned-root, unwound-none, unwinds-more}
+use Rattle.rows.proofs.Readings.{context-child, context-root, depth-is, any-at}
+use Rattle.rows.proofs.Bridge.{gains-reached, gains-root, none-there, called, sampled, returned-child, returned-root, unwound-none, unwinds-more}
 
 -- a number in its range, by the test of the definition
 pub ranged-from : (low high n : ℕ) → low ≤ n → n ≤ high → from-to low high n ≡ true
@@ -75,7 +75,7 @@ module _ {M : Type 0} {m : Measure M} (laws : Laws m) (s : List Shape) (v : List
     found-there c found l =
         let pa = found .is-parent l in
         let fn = found .is-function l in
-        let is : context s c ≡ at (context s cur .level) (f ∷ context s cur .path) = context-kid s n top (o .table) c l (omega (arith, fn)) ∙ ap₂ (λ p g. at (context s p .level) (g ∷ context s p .path)) pa fn in
+        let is : context s c ≡ at (context s cur .level) (f ∷ context s cur .path) = context-child s n top (o .table) c l (omega (arith, fn)) ∙ ap₂ (λ p g. at (context s p .level) (g ∷ context s p .path)) pa fn in
         subst (λ y. any-of (same y) (listed (m .none) s v n) ≡ true) is (any-at (m .none) s v n c l)
 
     module _ (s′ : List Shape) (v′ : List M) (c n′ : ℕ) (e : Entered (m .none) (m .join) (m .of-call) s s′ v v′ n cur f c) (em : n′ ≡ max n (c + 1)) where
@@ -120,15 +120,15 @@ module _ {M : Type 0} {m : Measure M} (laws : Laws m) (s : List Shape) (v : List
         (ranged-from 1 65535 f (omega arith) h, omega (arith, path-long, r .0), omega (arith, r .1))
 
   -- ---- a return
-  pub kid-sound : 0 < getD s cur blank .function → Sound s n top (getD s cur blank .parent)
-  kid-sound f =
-      let k = o .table .good cur (o .opened) .kid f in
+  pub child-sound : 0 < getD s cur blank .function → Sound s n top (getD s cur blank .parent)
+  child-sound f =
+      let k = o .table .good cur (o .opened) .child f in
       record { table = o .table; opened = omega (arith, k .parent, o .opened); here = sym (k .level) ∙ o .here }
 
-  pub kid-taken : (room : ℕ) → room ≡ length s → 0 < getD s cur blank .function → Taken m (held m s v n cur room) (held m s v n (getD s cur blank .parent) room) Return
-  kid-taken room er f =
-      let k = o .table .good cur (o .opened) .kid f in
-      let is = returned-kid laws s v n top cur o f in
+  pub child-taken : (room : ℕ) → room ≡ length s → 0 < getD s cur blank .function → Taken m (held m s v n cur room) (held m s v n (getD s cur blank .parent) room) Return
+  child-taken room er f =
+      let k = o .table .good cur (o .opened) .child f in
+      let is = returned-child laws s v n top cur o f in
       let low : getD s (getD s cur blank .parent) blank .depth ≤ 512 = omega (arith, k .depth, o .table .good cur (o .opened) .depth) in
       record {
         ranged = refl;

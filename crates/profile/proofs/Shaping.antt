@@ -31,7 +31,7 @@ module _ (s : List Shape) (n : ℕ) (t : Table s n 0) (col : List ShapeRow) (lon
     root-function = fn 0 (some s n 0 t) ∙ first-root s n 0 t;
     root-parent = pa 0 (some s n 0 t) ∙ t .good 0 (some s n 0 t) .root (first-root s n 0 t) .parent;
     called = λ i p h. omega (arith, fn i (omega arith), named i p (omega arith));
-    above = λ i p h. omega (arith, pa i (omega arith), t .good i (omega arith) .kid (named i p (omega arith)) .parent);
+    above = λ i p h. omega (arith, pa i (omega arith), t .good i (omega arith) .child (named i p (omega arith)) .parent);
   }
 
   -- as many steps as the row's number suffice
@@ -42,7 +42,7 @@ module _ (s : List Shape) (n : ℕ) (t : Table s n 0) (col : List ShapeRow) (lon
   deep (suc most) i l h = ⊎-elim
       (λ (e : i ≡ 0). cond-true _ _ _ (eq-eqb i 0 e) ∙ sym (ap (λ k. getD s k blank .depth) e ∙ t .good 0 (some s n 0 t) .root (first-root s n 0 t) .depth))
       (λ (e : i ≡ 0 → ⊥).
-      let q = t .good i h .kid (named i (omega arith) h) in
+      let q = t .good i h .child (named i (omega arith) h) in
       let up : parent-at col i ≡ getD s i blank .parent = pa i h in
       cond-false _ _ _ (ne-eqb i 0 e) ∙ ap suc (ap (steps-up most col) up ∙ deep most (getD s i blank .parent) (omega (arith, q .parent)) (omega (arith, q .parent))) ∙ sym (q .depth ∙ add-one _))
       (cases-eq i 0)

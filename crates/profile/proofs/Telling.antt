@@ -15,7 +15,7 @@ use Rattle.rows.specs.Shapes.{Shape, blank}
 use Rattle.rows.specs.Sound.{Table}
 use Rattle.rows.specs.Reading.{context, listed}
 use Rattle.rows.proofs.Sounds.{some, top-one, level-low, roots-rise}
-use Rattle.rows.proofs.Readings.{context-kid, contexts-apart, depth-is, any-at, any-is}
+use Rattle.rows.proofs.Readings.{context-child, contexts-apart, depth-is, any-at, any-is}
 use Rattle.rows.proofs.Flats.{first-root}
 use Rattle.rows.proofs.Listed.{joins-own}
 
@@ -28,7 +28,7 @@ module _ (s : List Shape) (n top : ℕ) (t : Table s n top) where
 
   -- any other row
   pub child-row : (k : ℕ) → k < n → 0 < getD s k blank .function → (getD s k blank .parent < k) × (context s k ≡ at (context s (getD s k blank .parent) .level) (getD s k blank .function ∷ context s (getD s k blank .parent) .path))
-  child-row k h f = (t .good k h .kid f .parent, context-kid s n top t k h f)
+  child-row k h f = (t .good k h .child f .parent, context-child s n top t k h f)
 
 -- ---- trees: one level
 module _ (s : List Shape) (n : ℕ) (t : Table s n 0) where

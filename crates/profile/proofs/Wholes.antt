@@ -15,7 +15,7 @@ use Rattle.rows.specs.Sound.{Table, Sound}
 use Rattle.rows.specs.Reading.{context, contexts, listed, reading}
 use Rattle.profile.specs.Given.{Held, Complete}
 use Rattle.rows.proofs.Sounds.{up-one}
-use Rattle.rows.proofs.Readings.{context-kid, depth-is, any-at, any-is, any-rooted}
+use Rattle.rows.proofs.Readings.{context-child, depth-is, any-at, any-is, any-rooted}
 use Rattle.profile.proofs.Giving.{held}
 use Rattle.rows.proofs.Listed.{among-listed, contexts-long, contexts-once}
 
@@ -35,7 +35,7 @@ complete m s v n top cur room o fits = record {
         (λ (z : getD s (k .0) blank .function ≡ 0). absurd (omega (arith, o .table .good (k .0) (k .1) .root z .depth)))
         (λ (z : getD s (k .0) blank .function ≡ 0 → ⊥). omega arith)
         (cases-eq (getD s (k .0) blank .function) 0) in
-        let is : at l q ≡ context s (getD s (k .0) blank .parent) = ap (λ (x : Position). at (x .level) (drop 1 (x .path))) (k .2 ∙ context-kid s n top (o .table) (k .0) (k .1) named) in
+        let is : at l q ≡ context s (getD s (k .0) blank .parent) = ap (λ (x : Position). at (x .level) (drop 1 (x .path))) (k .2 ∙ context-child s n top (o .table) (k .0) (k .1) named) in
         subst (λ x. any-of (same x) (listed (m .none) s v n) ≡ true) (sym is) (any-at (m .none) s v n (getD s (k .0) blank .parent) (omega (arith, p .parent, k .1)));
     opened = any-at (m .none) s v n cur (o .opened);
   };

@@ -15,7 +15,7 @@ use Rattle.model.specs.Positions.{Path, Position, at, same, returned, unwound, 
 use Rattle.metrics.specs.Measures.{Measure, Laws}
 use Rattle.metrics.specs.Joins.{joins}
 use Rattle.model.specs.Summaries.{Summary, summary, any-of, rooted, added}
-use Rattle.rows.specs.Shapes.{Shape, blank, kid, root}
+use Rattle.rows.specs.Shapes.{Shape, blank, child, root}
 use Rattle.rows.specs.Sound.{roots, Table, Sound}
 use Rattle.rows.specs.Steps.{Reached, grown, grownValues}
 use Rattle.rows.specs.Reading.{trail, context, listed, reading}
@@ -23,8 +23,8 @@ use Rattle.rows.specs.Gains.{Gains}
 use Rattle.model.proofs.Moves.{same-refl, same-true}
 use Rattle.model.proofs.Rows.{alike, rooted-parts, rooted-from}
 use Rattle.model.proofs.Trees.{move-up}
-use Rattle.rows.proofs.Sounds.{Alike, put-alike, table-kid, table-root, up-one}
-use Rattle.rows.proofs.Readings.{context-kid, context-root, contexts-apart, context-alike, depth-is, listed-same, any-at, any-is, any-known, any-rooted, joins-unit, joins-book}
+use Rattle.rows.proofs.Sounds.{Alike, put-alike, table-child, table-root, up-one}
+use Rattle.rows.proofs.Readings.{context-child, context-root, contexts-apart, context-alike, depth-is, listed-same, any-at, any-is, any-known, any-rooted, joins-unit, joins-book}
 
 pub summary-path : {M : Type 0} (a b : Summary M) → a .end ≡ b .end → ((x : Position) → a .row x ≡ b .row x) → ((x : Position) → a .value x ≡ b .value x) → a ≡ b
 summary-path a b e f g = λ i. record { end = e i; row = fun-ext f i; value = fun-ext g i }
@@ -76,22 +76,22 @@ module _ {M : Type 0} {m : Measure M} (laws : Laws m) (s : List Shape) (v : List
       let em : max n (c + 1) ≡ n = omega arith in
       let pa = r .found .is-parent l in
       let fn = r .found .is-function l in
-      let is : context s c ≡ at (context s up .level) (f ∷ context s up .path) = context-kid s n top t c l (omega (arith, fn)) ∙ ap₂ (λ p g. at (context s p .level) (g ∷ context s p .path)) pa fn in
+      let is : context s c ≡ at (context s up .level) (f ∷ context s up .path) = context-child s n top t c l (omega (arith, fn)) ∙ ap₂ (λ p g. at (context s p .level) (g ∷ context s p .path)) pa fn in
       rw (es, ev, em, ← is) (gains-old c l))
       (λ (l : n ≤ c).
       let ec : c ≡ n = omega (arith, r .found .within) in
-      let es : s′ ≡ set s n (kid s up f) = r .shapes ∙ cond-false _ _ _ (le-ltb c n l) in
+      let es : s′ ≡ set s n (child s up f) = r .shapes ∙ cond-false _ _ _ (le-ltb c n l) in
       let ev : v′ ≡ set v n (m .none) = r .values ∙ cond-false _ _ _ (le-ltb c n l) in
       let em : max n (c + 1) ≡ n + 1 = omega arith in
       let room : n < length s = omega (arith, r .room) in
-      let t′ = table-kid s n top up f t room below named (r .shallow) (r .found .absent l) in
-      let g = gains-new top (kid s up f) (omega arith) t′ in
-      let w : getD (set s n (kid s up f)) n blank ≡ kid s up f = getD-set-same s n (kid s up f) blank room in
-      let nm : 0 < getD (set s n (kid s up f)) n blank .function = rw w named in
-      let is : context (set s n (kid s up f)) n ≡ at (context s up .level) (f ∷ context s up .path) =
-      context-kid (set s n (kid s up f)) (n + 1) top t′ n (omega arith) nm
-      ∙ ap (λ (x : Shape). at (context (set s n (kid s up f)) (x .parent) .level) (x .function ∷ context (set s n (kid s up f)) (x .parent) .path)) w
-      ∙ ap (λ (x : Position). at (x .level) (f ∷ x .path)) (context-alike s n top t (set s n (kid s up f)) (put-alike s n (kid s up f)) up below) in
+      let t′ = table-child s n top up f t room below named (r .shallow) (r .found .absent l) in
+      let g = gains-new top (child s up f) (omega arith) t′ in
+      let w : getD (set s n (child s up f)) n blank ≡ child s up f = getD-set-same s n (child s up f) blank room in
+      let nm : 0 < getD (set s n (child s up f)) n blank .function = rw w named in
+      let is : context (set s n (child s up f)) n ≡ at (context s up .level) (f ∷ context s up .path) =
+      context-child (set s n (child s up f)) (n + 1) top t′ n (omega arith) nm
+      ∙ ap (λ (x : Shape). at (context (set s n (child s up f)) (x .parent) .level) (x .function ∷ context (set s n (child s up f)) (x .parent) .path)) w
+      ∙ ap (λ (x : Position). at (x .level) (f ∷ x .path)) (context-alike s n top t (set s n (child s up f)) (put-alike s n (child s up f)) up below) in
       rw (es, ev, em, ec, ← is) g)
       (cases-lt c n)
 
@@ -117,7 +117,7 @@ module _ {M : Type 0} {m : Measure M} (laws : Laws m) (s : List Shape) (v : List
       (λ (z : getD s (k .0) blank .function ≡ 0). absurd (omega (arith, t .good (k .0) (k .1) .root z .depth)))
       (λ (z : getD s (k .0) blank .function ≡ 0 → ⊥). omega arith)
       (cases-eq (getD s (k .0) blank .function) 0) in
-      let is : y ≡ at (context s (getD s (k .0) blank .parent) .level) (getD s (k .0) blank .function ∷ context s (getD s (k .0) blank .parent) .path) = k .2 ∙ context-kid s n top t (k .0) (k .1) named in
+      let is : y ≡ at (context s (getD s (k .0) blank .parent) .level) (getD s (k .0) blank .function ∷ context s (getD s (k .0) blank .parent) .path) = k .2 ∙ context-child s n top t (k .0) (k .1) named in
       let fn : f ≡ getD s (k .0) blank .function = cc (ap (λ (x : Position). x .path) is) in
       let pt : context s up .path ≡ context s (getD s (k .0) blank .parent) .path = cc (ap (λ (x : Position). x .path) is) in
       let pa : up ≡ getD s (k .0) blank .parent = contexts-apart s n top t up (getD s (k .0) blank .parent) below (omega (arith, q .parent, k .1)) (ap₂ at (ap (λ (x : Position). x .level) is) pt) in
@@ -197,11 +197,11 @@ module _ {M : Type 0} {m : Measure M} (laws : Laws m) (s : List Shape) (v : List
   pub level-rows : (l : ℕ) → l ≡ top → (x : Position) → any-of (same x) (listed (m .none) s v n) ≡ (any-of (same x) (listed (m .none) s v n) || rooted l x)
   level-rows l e x = rw e (any-rooted (m .none) s v n top (o .table) x)
 
-  pub returned-kid : 0 < getD s cur blank .function → reading m s v n (getD s cur blank .parent) ≡ added m (reading m s v n cur) Return
-  returned-kid f =
-      let is = context-kid s n top (o .table) cur (o .opened) f in
+  pub returned-child : 0 < getD s cur blank .function → reading m s v n (getD s cur blank .parent) ≡ added m (reading m s v n cur) Return
+  returned-child f =
+      let is = context-child s n top (o .table) cur (o .opened) f in
       let mv : move (context s cur) Return ≡ context s (getD s cur blank .parent) = ap (λ (x : Position). returned (x .level) (x .path)) is in
-      let k = o .table .good cur (o .opened) .kid f in
+      let k = o .table .good cur (o .opened) .child f in
       summary-path _ _ (sym mv) (level-rows _ (ap (λ (x : Position). x .level) mv ∙ sym (k .level) ∙ o .here)) (λ x. refl)
 
   pub returned-root : (s′ : List Shape) (v′ : List M) → getD s cur blank .function ≡ 0 → Gains m s s′ v v′ n (n + 1) top (top + 1) n (at (top + 1) []) → reading m s′ v′ (n + 1) n ≡ added m (reading m s v n cur) Return

@@ -22,7 +22,7 @@ use Rattle.model.proofs.Moves.{same-path-refl, same-path-true}
 use Rattle.model.proofs.Rows.{alike}
 use Rattle.model.proofs.Totals.{unit-right, swap}
 use Rattle.rows.proofs.Sounds.{some, up-one, top-one, roots-rise, level-low}
-use Rattle.rows.proofs.Readings.{context-kid, contexts-apart, depth-is}
+use Rattle.rows.proofs.Readings.{context-child, contexts-apart, depth-is}
 use Rattle.rows.proofs.Flats.{first-root}
 
 -- ---- joins by number
@@ -94,7 +94,7 @@ module _ (s : List Shape) (n : ℕ) (t : Table s n 0) where
   pub parent-low : (j : ℕ) → j < n → getD s j blank .parent ≤ j
   parent-low j h = ⊎-elim
       (λ (z : getD s j blank .function ≡ 0). omega (arith, t .good j h .root z .parent))
-      (λ (z : getD s j blank .function ≡ 0 → ⊥). omega (arith, t .good j h .kid (omega arith) .parent))
+      (λ (z : getD s j blank .function ≡ 0 → ⊥). omega (arith, t .good j h .child (omega arith) .parent))
       (cases-eq (getD s j blank .function) 0)
 
   -- the row r hands up
@@ -127,7 +127,7 @@ module _ (s : List Shape) (n : ℕ) (t : Table s n 0) where
       (λ (l : suc r ≤ j).
       let p = getD s j blank .parent in
       let b = begins-up r d p (omega (arith, q .parent)) (omega (arith, q .depth)) (sym (holder-high (suc r) d j l) ∙ y) in
-      ap (λ (x : Position). begins (context s r .path) (x .path)) (context-kid s n 0 t j h f)
+      ap (λ (x : Position). begins (context s r .path) (x .path)) (context-child s n 0 t j h f)
       ∙ begins-more (context s r .path) (context s p .path) (getD s j blank .function) (begins-is (context s r .path) (context s p .path) b .1) ∙ b)
       (cases-lt j (suc r))
 
@@ -153,7 +153,7 @@ module _ (s : List Shape) (n : ℕ) (t : Table s n 0) where
       (λ (y : j ≡ r → ⊥).
       let l = differ r j hr h y b in
       let lp : length (context s r .path) ≤ length (context s p .path) = omega (arith, l, depth-is s j, depth-is s p, q .depth) in
-      let b′ : begins (context s r .path) (context s p .path) ≡ true = sym (begins-more (context s r .path) (context s p .path) (getD s j blank .function) lp) ∙ sym (ap (λ (x : Position). begins (context s r .path) (x .path)) (context-kid s n 0 t j h f)) ∙ b in
+      let b′ : begins (context s r .path) (context s p .path) ≡ true = sym (begins-more (context s r .path) (context s p .path) (getD s j blank .function) lp) ∙ sym (ap (λ (x : Position). begins (context s r .path) (x .path)) (context-child s n 0 t j h f)) ∙ b in
       let i = begins-down r d p hr (omega (arith, q .parent)) (omega (arith, q .depth)) b′ in
       ⊎-elim
       (λ (z : j < suc r). absurd (omega (arith, i, holder-low (suc r) d p (omega (arith, q .parent)), q .parent)))

@@ -16,24 +16,24 @@ use Rattle.metrics.specs.Measures.{Measure, Laws}
 use Rattle.metrics.specs.Joins.{joins, over, calling}
 use Rattle.model.specs.Summaries.{Summary, any-of}
 use Rattle.model.specs.Trees.{Tree, finished}
-use Rattle.rows.specs.Shapes.{Shape, blank, kid}
-use Rattle.rows.specs.Sound.{roots, Root, Kid, Good, Table, Sound}
+use Rattle.rows.specs.Shapes.{Shape, blank, child}
+use Rattle.rows.specs.Sound.{roots, Root, Child, Good, Table, Sound}
 use Rattle.rows.specs.Steps.{Reached, grown, grownValues}
 use Rattle.rows.specs.Reading.{trail, context, listed, reading}
 use Rattle.rows.specs.Gains.{Gains}
-use Rattle.rows.specs.Flats.{flat, kid-target, book-at, seat-target, Ready, Seated, Flattening, tree-reading}
+use Rattle.rows.specs.Flats.{flat, child-target, book-at, seat-target, Ready, Seated, Flattening, tree-reading}
 use Rattle.model.proofs.Rows.{calling-laws}
 use Rattle.model.proofs.Trees.{Below, levels-rows}
 use Rattle.model.proofs.Added.{flags, any-flags}
 use Rattle.rows.proofs.Sounds.{Alike, some, up-one, top-one, roots-root, level-low}
-use Rattle.rows.proofs.Readings.{context-kid, context-root, context-alike, depth-is, listed-same, joins-book}
+use Rattle.rows.proofs.Readings.{context-child, context-root, context-alike, depth-is, listed-same, joins-book}
 use Rattle.rows.proofs.Bridge.{any-values, gains-old, gains-reached}
 
 -- the first row is a root row
 pub first-root : (s : List Shape) (n top : ℕ) → Table s n top → getD s 0 blank .function ≡ 0
 first-root s n top t = ⊎-elim
     (λ (z : getD s 0 blank .function ≡ 0). z)
-    (λ (z : getD s 0 blank .function ≡ 0 → ⊥). absurd (omega (arith, t .good 0 (some s n top t) .kid (omega arith) .parent)))
+    (λ (z : getD s 0 blank .function ≡ 0 → ⊥). absurd (omega (arith, t .good 0 (some s n top t) .child (omega arith) .parent)))
     (cases-eq (getD s 0 blank .function) 0)
 
 first-context : (s : List Shape) (n top : ℕ) → Table s n top → context s 0 ≡ at 0 []
@@ -43,7 +43,7 @@ first-context s n top t = context-root s n top t 0 (some s n top t) (first-root 
 grown-other : (s : List Shape) (n up f c k : ℕ) → n < k → getD (grown s n up f c) k blank ≡ getD s k blank
 grown-other s n up f c k h = ⊎-elim
     (λ (l : c < n). ap (λ u. getD u k blank) (cond-true _ _ _ (lt-ltb c n l)))
-    (λ (l : n ≤ c). ap (λ u. getD u k blank) (cond-false _ _ _ (le-ltb c n l)) ∙ getD-set-other s n k (kid s up f) blank (omega arith))
+    (λ (l : n ≤ c). ap (λ u. getD u k blank) (cond-false _ _ _ (le-ltb c n l)) ∙ getD-set-other s n k (child s up f) blank (omega arith))
     (cases-lt c n)
 
 grown-values-other : {M : Type 0} (none : M) (v : List M) (n c k : ℕ) → n < k → getD (grownValues none v n c) k none ≡ getD v k none
@@ -76,17 +76,17 @@ module _ {M : Type 0} {m : Measure M} (laws : Laws m) (s : List Shape) (v : List
         noted = em;
       }
 
-  pub seated-kid : (s′ : List Shape) (v₂ v′ : List M) (marks′ : List ℕ) (r : ℕ) → 0 < getD s i blank .function → length v ≡ length s
+  pub seated-child : (s′ : List Shape) (v₂ v′ : List M) (marks′ : List ℕ) (r : ℕ) → 0 < getD s i blank .function → length v ≡ length s
       → Reached (m .none) s s′ (set v i (m .none)) v₂ c (getD marks (getD s i blank .parent) 0) (getD s i blank .function) r
       → v′ ≡ book-at m v₂ r (getD v i (m .none)) → marks′ ≡ set marks i r → Seated m s s′ v v′ marks marks′ c i r
-  seated-kid s′ v₂ v′ marks′ r f lv q ev em =
+  seated-child s′ v₂ v′ marks′ r f lv q ev em =
       let v₁ = set v i (m .none) in
       let up = getD marks (getD s i blank .parent) 0 in
       let fn = getD s i blank .function in
       let g = gains-reached laws s v₁ c 0 (ready .table) s′ v₂ up fn r (ready .marked f) f (length-set v i (m .none) ∙ lv) q in
-      let ey : kid-target s up fn ≡ seat-target s marks fn (getD s i blank .parent) = sym (cond-false _ _ _ (ne-eqb fn 0 (λ (z : fn ≡ 0). omega arith))) in
+      let ey : child-target s up fn ≡ seat-target s marks fn (getD s i blank .parent) = sym (cond-false _ _ _ (ne-eqb fn 0 (λ (z : fn ≡ 0). omega arith))) in
       record {
-        gains = subst (λ y. Gains m s s′ v₁ (grownValues (m .none) v₁ c r) c (max c (r + 1)) 0 0 r y) ey (subst (λ u. Gains m s s′ v₁ u c (max c (r + 1)) 0 0 r (kid-target s up fn)) (q .values) g);
+        gains = subst (λ y. Gains m s s′ v₁ (grownValues (m .none) v₁ c r) c (max c (r + 1)) 0 0 r y) ey (subst (λ u. Gains m s s′ v₁ u c (max c (r + 1)) 0 0 r (child-target s up fn)) (q .values) g);
         booked = ev ∙ ap (λ u. book-at m u r (getD v i (m .none))) (q .values);
         near = q .found .within;
         rest = λ k l. ap (λ u. getD u k blank) (q .shapes) ∙ grown-other s c up fn r k (omega (arith, ready .high));
@@ -127,10 +127,10 @@ module _ {M : Type 0} {m : Measure M} (laws : Laws m) (s : List Shape) (v : List
         (λ (z : getD s i blank .function ≡ 0). cond-true _ _ _ (eq-eqb (getD s i blank .function) 0 z) ∙ sym (ap flat (context-root s n top t i h z)))
         (λ (z : getD s i blank .function ≡ 0 → ⊥).
         let f : 0 < getD s i blank .function = omega arith in
-        let k = t .good i h .kid f in
+        let k = t .good i h .child f in
         cond-false _ _ _ (ne-eqb (getD s i blank .function) 0 z)
         ∙ ap (λ (y : Position). at (y .level) (getD s i blank .function ∷ y .path)) (x .marked (getD s i blank .parent) (k .parent) .1)
-        ∙ sym (ap flat (context-kid s n top t i h f)))
+        ∙ sym (ap flat (context-child s n top t i h f)))
         (cases-eq (getD s i blank .function) 0)
 
     pub flat-ready : Ready s′ marks c i
@@ -141,10 +141,10 @@ module _ {M : Type 0} {m : Measure M} (laws : Laws m) (s : List Shape) (v : List
           some = x .some;
           high = x .high;
           table = x .table;
-          lower = λ f. omega (arith, hp, t .good i h .kid (omega (arith, hf)) .parent);
-          marked = λ f. subst (λ p. getD marks p 0 < c) (sym hp) (x .marked (getD s i blank .parent) (t .good i h .kid (omega (arith, hf)) .parent) .0);
+          lower = λ f. omega (arith, hp, t .good i h .child (omega (arith, hf)) .parent);
+          marked = λ f. subst (λ p. getD marks p 0 < c) (sym hp) (x .marked (getD s i blank .parent) (t .good i h .child (omega (arith, hf)) .parent) .0);
           shallow = λ f.
-              let k = t .good i h .kid (omega (arith, hf)) in
+              let k = t .good i h .child (omega (arith, hf)) in
               let w = x .marked (getD s i blank .parent) (k .parent) in
               subst (λ p. getD s′ (getD marks p 0) blank .depth < 512) (sym hp)
               (omega (arith, depth-is s′ (getD marks (getD s i blank .parent) 0), ap (λ (y : Position). length (y .path)) (w .1), depth-is s (getD s i blank .parent), k .depth, t .good i h .depth));

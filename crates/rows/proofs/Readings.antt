@@ -31,9 +31,9 @@ pub depth-is : (s : List Shape) (k : ℕ) → length (context s k .path) ≡ get
 depth-is s k = trail-long s (getD s k blank .depth) k
 
 module _ (s : List Shape) (n top : ℕ) (t : Table s n top) where
-  pub context-kid : (k : ℕ) → k < n → 0 < getD s k blank .function → context s k ≡ at (context s (getD s k blank .parent) .level) (getD s k blank .function ∷ context s (getD s k blank .parent) .path)
-  context-kid k h f =
-      let q = t .good k h .kid f in
+  pub context-child : (k : ℕ) → k < n → 0 < getD s k blank .function → context s k ≡ at (context s (getD s k blank .parent) .level) (getD s k blank .function ∷ context s (getD s k blank .parent) .path)
+  context-child k h f =
+      let q = t .good k h .child f in
       ap₂ at (q .level) (ap (λ d. trail s d k) (q .depth ∙ add-one _))
 
   pub context-root : (k : ℕ) → k < n → getD s k blank .function ≡ 0 → context s k ≡ at (roots s k) []

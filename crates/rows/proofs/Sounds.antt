@@ -12,8 +12,8 @@ use lib.ListN.{length, set, getD, length-set}
 use lib.Seq.{getD-set-same, getD-set-other}
 use borrow.Author.Count.{below-more}
 use Rattle.std.proofs.shelf.Tests.{cases-eq, cases-lt, cond-true, cond-false, eq-eqb, ne-eqb}
-use Rattle.rows.specs.Shapes.{Shape, blank, kid, root}
-use Rattle.rows.specs.Sound.{roots, Root, Kid, Good, Table, Sound}
+use Rattle.rows.specs.Shapes.{Shape, blank, child, root}
+use Rattle.rows.specs.Sound.{roots, Root, Child, Good, Table, Sound}
 
 -- ---- one proof at most
 root-prop : (s : List Shape) (k : ℕ) → IsProp (Root s k)
@@ -23,8 +23,8 @@ root-prop s k p q =
     let d : IsProp (getD s k blank .level ≡ roots s k) = search props in
     λ i. record { parent = a (p .parent) (q .parent) i; depth = b (p .depth) (q .depth) i; level = d (p .level) (q .level) i }
 
-kid-prop : (s : List Shape) (k : ℕ) → IsProp (Kid s k)
-kid-prop s k p q =
+child-prop : (s : List Shape) (k : ℕ) → IsProp (Child s k)
+child-prop s k p q =
     let a : IsProp (getD s k blank .parent < k) = search props in
     let b : IsProp (getD s k blank .level ≡ getD s (getD s k blank .parent) blank .level) = search props in
     let d : IsProp (getD s k blank .depth ≡ getD s (getD s k blank .parent) blank .depth + 1) = search props in
@@ -34,8 +34,8 @@ good-prop : (s : List Shape) (k : ℕ) → IsProp (Good s k)
 good-prop s k p q =
     let b : IsProp (getD s k blank .depth ≤ 512) = search props in
     let d : IsProp (getD s k blank .function ≡ 0 → Root s k) = search (props, root-prop s k) in
-    let e : IsProp (0 < getD s k blank .function → Kid s k) = search (props, kid-prop s k) in
-    λ i. record { depth = b (p .depth) (q .depth) i; root = d (p .root) (q .root) i; kid = e (p .kid) (q .kid) i }
+    let e : IsProp (0 < getD s k blank .function → Child s k) = search (props, child-prop s k) in
+    λ i. record { depth = b (p .depth) (q .depth) i; root = d (p .root) (q .root) i; child = e (p .child) (q .child) i }
 
 nat-set : (j k : ℕ) → IsProp (j ≡ k)
 nat-set j k = search props
@@ -66,14 +66,14 @@ whole-table {s} {count} {top} h = ∥∥₁-elim h (table-prop s count top) (λ 
 pub roots-root : (s : List Shape) (n : ℕ) → getD s n blank .function ≡ 0 → roots s (suc n) ≡ roots s n + 1
 roots-root s n z = cond-true _ _ _ (eq-eqb _ 0 z) ∙ sym (add-one _)
 
-pub roots-kid : (s : List Shape) (n : ℕ) → 0 < getD s n blank .function → roots s (suc n) ≡ roots s n
-roots-kid s n h = cond-false _ _ _ (ne-eqb (getD s n blank .function) 0 (λ (z : getD s n blank .function ≡ 0). omega arith))
+pub roots-child : (s : List Shape) (n : ℕ) → 0 < getD s n blank .function → roots s (suc n) ≡ roots s n
+roots-child s n h = cond-false _ _ _ (ne-eqb (getD s n blank .function) 0 (λ (z : getD s n blank .function ≡ 0). omega arith))
 
 pub roots-low : (s : List Shape) (n : ℕ) → roots s n ≤ n
 roots-low s zero = omega arith
 roots-low s (suc n) = let h = roots-low s n in ⊎-elim
     (λ (z : getD s n blank .function ≡ 0). omega (arith, roots-root s n z))
-    (λ (z : getD s n blank .function ≡ 0 → ⊥). omega (arith, roots-kid s n (omega arith)))
+    (λ (z : getD s n blank .function ≡ 0 → ⊥). omega (arith, roots-child s n (omega arith)))
     (cases-eq (getD s n blank .function) 0)
 
 -- the root row of each level
@@ -83,7 +83,7 @@ root-of s (suc n) l h = ⊎-elim
     (λ (below : l < roots s n). let r = root-of s n l below in (r .0, omega (arith, r .1), r .2, r .3))
     (λ (above : roots s n ≤ l). ⊎-elim
     (λ (z : getD s n blank .function ≡ 0). (n, omega arith, z, omega (arith, roots-root s n z)))
-    (λ (z : getD s n blank .function ≡ 0 → ⊥). absurd (omega (arith, roots-kid s n (omega arith))))
+    (λ (z : getD s n blank .function ≡ 0 → ⊥). absurd (omega (arith, roots-child s n (omega arith))))
     (cases-eq (getD s n blank .function) 0))
     (cases-lt l (roots s n))
 
@@ -96,7 +96,7 @@ roots-rise s (suc n) k h z = ⊎-elim
     let low = roots-rise s n k (omega arith) z in
     ⊎-elim
     (λ (y : getD s n blank .function ≡ 0). omega (arith, roots-root s n y))
-    (λ (y : getD s n blank .function ≡ 0 → ⊥). omega (arith, roots-kid s n (omega arith)))
+    (λ (y : getD s n blank .function ≡ 0 → ⊥). omega (arith, roots-child s n (omega arith)))
     (cases-eq (getD s n blank .function) 0))
     (cases-eq k n)
 
@@ -115,8 +115,8 @@ module _ (s s′ : List Shape) (n : ℕ) (a : Alike s s′ n) where
       record {
         depth = rw o (g .depth);
         root = λ z. let r = g .root (rw o at z) in record { parent = rw o (r .parent); depth = rw o (r .depth); level = rw (o, roots-alike s s′ k (λ j l. a j (omega arith))) (r .level) };
-        kid = λ z.
-            let r = g .kid (rw o at z) in
+        child = λ z.
+            let r = g .child (rw o at z) in
             let o′ = a (getD s k blank .parent) (omega (arith, r .parent)) in
             record { parent = rw o (r .parent); level = rw (o, o′) (r .level); depth = rw (o, o′) (r .depth) };
       }
@@ -162,9 +162,9 @@ module _ (s : List Shape) (n top top′ : ℕ) (t : Table s n top) (room : n < l
   }
 
 -- the row of a call, and of a return at the empty path
-pub table-kid : (s : List Shape) (n top up f : ℕ) → Table s n top → n < length s → up < n → 0 < f → getD s up blank .depth < 512 → ((k : ℕ) → k < n → getD s k blank .parent ≡ up → getD s k blank .function ≡ f → ⊥) → Table (set s n (kid s up f)) (n + 1) top
-table-kid s n top up f t room below named shallow absent =
-    let r = kid s up f in
+pub table-child : (s : List Shape) (n top up f : ℕ) → Table s n top → n < length s → up < n → 0 < f → getD s up blank .depth < 512 → ((k : ℕ) → k < n → getD s k blank .parent ≡ up → getD s k blank .function ≡ f → ⊥) → Table (set s n (child s up f)) (n + 1) top
+table-child s n top up f t room below named shallow absent =
+    let r = child s up f in
     let s′ = set s n r in
     let a = put-alike s n r in
     let w : getD s′ n blank ≡ r = getD-set-same s n r blank room in
@@ -174,10 +174,10 @@ table-kid s n top up f t room below named shallow absent =
     (record {
       depth = rw w (omega arith);
       root = λ z. absurd (let z′ : f ≡ 0 = rw w at z in omega arith);
-      kid = λ z. record { parent = rw w below; level = rw (w, o); depth = rw (w, o) };
+      child = λ z. record { parent = rw w below; level = rw (w, o); depth = rw (w, o) };
     })
     (λ k h z e p. absent k h (sym (ap (λ (x : Shape). x .parent) (a k h)) ∙ p ∙ ap (λ (x : Shape). x .parent) w) (sym (ap (λ (x : Shape). x .function) (a k h)) ∙ e ∙ ap (λ (x : Shape). x .function) w))
-    (roots-kid s′ n (rw w named) ∙ roots-alike s s′ n a ∙ t .levels)
+    (roots-child s′ n (rw w named) ∙ roots-alike s s′ n a ∙ t .levels)
 
 pub table-root : (s : List Shape) (n top : ℕ) → Table s n top → n < length s → Table (set s n (root (top + 1) n)) (n + 1) (top + 1)
 table-root s n top t room =
@@ -192,7 +192,7 @@ table-root s n top t room =
     (record {
       depth = rw w (omega arith);
       root = λ z. record { parent = rw w; depth = rw w; level = rw w (sym (same ∙ t .levels)) };
-      kid = λ z. absurd (omega arith);
+      child = λ z. absurd (omega arith);
     })
     (λ k h z e p. absurd (omega arith))
     (omega (arith, roots-root s′ n fn, t .levels))
@@ -208,7 +208,7 @@ table-new s h =
     record {
       table = record {
         fits = simp length-set (omega arith);
-        good = λ k l. let z : 0 ≡ k = omega arith in subst (λ n. Good s′ n) z (record { depth = omega arith; root = λ _. record { parent = pa; depth = de; level = lv }; kid = λ x. absurd (omega arith) });
+        good = λ k l. let z : 0 ≡ k = omega arith in subst (λ n. Good s′ n) z (record { depth = omega arith; root = λ _. record { parent = pa; depth = de; level = lv }; child = λ x. absurd (omega arith) });
         apart = λ j k a b _ _ _. omega arith;
         levels = roots-root s′ 0 fn;
       };
@@ -225,16 +225,16 @@ module _ (s : List Shape) (n top : ℕ) (t : Table s n top) where
   narrow = omega (arith, t .levels, roots-low s n)
 
   -- a row that is not at the top has a parent
-  pub up-one : (k : ℕ) → k < n → 0 < getD s k blank .depth → Kid s k
+  pub up-one : (k : ℕ) → k < n → 0 < getD s k blank .depth → Child s k
   up-one k h d = ⊎-elim
       (λ (z : getD s k blank .function ≡ 0). absurd (omega (arith, t .good k h .root z .depth)))
-      (λ (z : getD s k blank .function ≡ 0 → ⊥). t .good k h .kid (omega arith))
+      (λ (z : getD s k blank .function ≡ 0 → ⊥). t .good k h .child (omega arith))
       (cases-eq (getD s k blank .function) 0)
 
   pub top-one : (k : ℕ) → k < n → getD s k blank .depth ≡ 0 → getD s k blank .function ≡ 0
   top-one k h d = ⊎-elim
       (λ (z : getD s k blank .function ≡ 0). z)
-      (λ (z : getD s k blank .function ≡ 0 → ⊥). absurd (omega (arith, t .good k h .kid (omega arith) .depth)))
+      (λ (z : getD s k blank .function ≡ 0 → ⊥). absurd (omega (arith, t .good k h .child (omega arith) .depth)))
       (cases-eq (getD s k blank .function) 0)
 
   -- no row is of a level above the last: from a row to the root row above it

@@ -21,12 +21,12 @@ abbrev pub flat : Position → Position
 flat x = at 0 (x .path)
 
 -- the context of f below the row t
-abbrev pub kid-target : List Shape → ℕ → ℕ → Position
-kid-target s t f = at (context s t .level) (f ∷ context s t .path)
+abbrev pub child-target : List Shape → ℕ → ℕ → Position
+child-target s t f = at (context s t .level) (f ∷ context s t .path)
 
 -- where a row goes, of the function f, whose parent is up
 abbrev pub seat-target : List Shape → List ℕ → ℕ → ℕ → Position
-seat-target s marks f up = cond (eqb f 0) (at 0 []) (kid-target s (getD marks up 0) f)
+seat-target s marks f up = cond (eqb f 0) (at 0 []) (child-target s (getD marks up 0) f)
 
 -- the value w joined to that of the row c
 abbrev pub book-at : {M : Type 0} → Measure M → List M → ℕ → M → List M

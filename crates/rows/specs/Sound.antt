@@ -19,15 +19,16 @@ pub record Root (s : List Shape) (k : ℕ) : Type 0 where
   pub level : getD s k blank .level ≡ roots s k
 
 -- any other row comes after its parent, is of its level and one deeper
-pub record Kid (s : List Shape) (k : ℕ) : Type 0 where
+pub record Child (s : List Shape) (k : ℕ) : Type 0 where
   pub parent : getD s k blank .parent < k
   pub level : getD s k blank .level ≡ getD s (getD s k blank .parent) blank .level
   pub depth : getD s k blank .depth ≡ getD s (getD s k blank .parent) blank .depth + 1
 
+-- a row of one of these two kinds, with a path of at most 512
 pub record Good (s : List Shape) (k : ℕ) : Type 0 where
   pub depth : getD s k blank .depth ≤ 512
   pub root : getD s k blank .function ≡ 0 → Root s k
-  pub kid : 0 < getD s k blank .function → Kid s k
+  pub child : 0 < getD s k blank .function → Child s k
 
 -- The first count rows are a table of the levels 0 to top: no two of them are of one function below one parent.
 pub record Table (s : List Shape) (count top : ℕ) : Type 0 where
@@ -36,6 +37,7 @@ pub record Table (s : List Shape) (count top : ℕ) : Type 0 where
   pub apart : (j k : ℕ) → j < count → k < count → 0 < getD s j blank .function → getD s j blank .function ≡ getD s k blank .function → getD s j blank .parent ≡ getD s k blank .parent → j ≡ k
   pub levels : roots s count ≡ top + 1
 
+-- The same, and the row of the open path is one of them, of the last level.
 pub record Sound (s : List Shape) (count level current : ℕ) : Type 0 where
   pub table : Table s count level
   pub opened : current < count

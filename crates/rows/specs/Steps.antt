@@ -9,13 +9,14 @@ use Rattle.std.specs.declared.result.Result.{Result}
 use Rattle.std.specs.declared.result.Result.the-variants.{Ok, Err}
 use Rattle.rows.specs.declared.rejection.Rejection.{Rejection}
 use Rattle.rows.specs.declared.rejection.Rejection.the-variants.{OutOfRange, TableSize, TooFewRows, PathTooLong}
-use Rattle.rows.specs.Shapes.{Shape, blank, kid, root}
+use Rattle.rows.specs.Shapes.{Shape, blank, child, root}
 use Rattle.rows.specs.Index.{Indexed, Found}
 
 -- a row of f below up at c, made if c is n
 abbrev pub grown : List Shape → ℕ → ℕ → ℕ → ℕ → List Shape
-grown s n up f c = cond (ltb c n) s (set s n (kid s up f))
+grown s n up f c = cond (ltb c n) s (set s n (child s up f))
 
+-- the values then: a new row has the unit
 abbrev pub grownValues : {V : Type 0} → V → List V → ℕ → ℕ → List V
 grownValues none v n c = cond (ltb c n) v (set v n none)
 
@@ -26,6 +27,7 @@ Refused s n up f TableSize = ⊥
 Refused s n up f PathTooLong = 512 ≤ getD s up blank .depth
 Refused s n up f TooFewRows = (getD s up blank .depth < 512) × (length s ≤ n) × ((k : ℕ) → k < n → getD s k blank .parent ≡ up → getD s k blank .function ≡ f → ⊥)
 
+-- c is the row of f below up, made with the unit where there was none
 pub record Reached {V : Type 0} (none : V) (s s′ : List Shape) (v v′ : List V) (n up f c : ℕ) : Type 0 where
   pub found : Found s n up f c
   pub shallow : getD s up blank .depth < 512
@@ -33,6 +35,7 @@ pub record Reached {V : Type 0} (none : V) (s s′ : List Shape) (v v′ : List 
   pub shapes : s′ ≡ grown s n up f c
   pub values : v′ ≡ grownValues none v n c
 
+-- what a step answers and leaves
 abbrev pub Reach : {V : Type 0} → V → List Shape → List Shape → List V → List V → ℕ → ℕ → ℕ → Result ℕ Rejection → Type 0
 Reach none s s′ v v′ n up f (Ok c) = Reached none s s′ v v′ n up f c
 Reach none s s′ v v′ n up f (Err e) = (s′ ≡ s) × (v′ ≡ v) × Refused s n up f e
@@ -41,6 +44,7 @@ Reach none s s′ v v′ n up f (Err e) = (s′ ≡ s) × (v′ ≡ v) × Refuse
 abbrev pub bookedValues : {V : Type 0} → V → (V → V → V) → V → List V → ℕ → List V
 bookedValues none op w v c = set v c (op (getD v c none) w)
 
+-- the same, with w joined to the row's value
 pub record Entered {V : Type 0} (none : V) (op : V → V → V) (w : V) (s s′ : List Shape) (v v′ : List V) (n up f c : ℕ) : Type 0 where
   pub found : Found s n up f c
   pub shallow : getD s up blank .depth < 512
@@ -48,6 +52,7 @@ pub record Entered {V : Type 0} (none : V) (op : V → V → V) (w : V) (s s′ 
   pub shapes : s′ ≡ grown s n up f c
   pub values : v′ ≡ bookedValues none op w (grownValues none v n c) c
 
+-- the same, with a value joined
 abbrev pub Enter : {V : Type 0} → V → (V → V → V) → V → List Shape → List Shape → List V → List V → ℕ → ℕ → ℕ → Result ℕ Rejection → Type 0
 Enter none op w s s′ v v′ n up f (Ok c) = Entered none op w s s′ v v′ n up f c
 Enter none op w s s′ v v′ n up f (Err e) = (s′ ≡ s) × (v′ ≡ v) × Refused s n up f e

@@ -1,5 +1,5 @@
 use Rattle.model.specs.Positions.{same, start}
-use Rattle.model.specs.Summaries.{marks}
+use Rattle.model.specs.Summaries.{bookings}
 use Rattle.model.proofs.InOrder.{in-order}
 use Rattle.model.proofs.Joined.{summary-append}
 use Rattle.model.proofs.Added.{rows-stand, adds-stand}
@@ -13,7 +13,7 @@ returns g c =
     let laws = g .M·Metric·met .lawful in
     let m = g .M·Metric .measure in
     record {
-      in-order = λ xs x. in-order laws (same x) (marks m start xs);
+      in-order = λ xs x. in-order laws (same x) (bookings m start xs);
       joins = summary-append _ laws;
       rows = rows-stand laws;
       adds = adds-stand laws;

@@ -10,7 +10,7 @@ use Rattle.rows.specs.Flats.{book-at}
 use Rattle.rows.specs.Flats.{Seated}
 use Rattle.rows.proofs.Views.{long, long-values}
 use Rattle.rows.proofs.Chains.{indexed-moved}
-use Rattle.rows.proofs.Flats.{seated-root, seated-kid}
+use Rattle.rows.proofs.Flats.{seated-root, seated-child}
 use Rattle.rows.proofs.flatten.flatten_row.Needs as need
 
 pub returns-then-seen-eq0 : need.returns-then-seen-eq0
@@ -88,6 +88,6 @@ returns g c =
     let em : ms ≡ set (marks rows) i to = w .noted ∙ ap (λ u. set u i to) (b .noted ∙ p .noted ∙ e .noted) in
     record {
       seated = subst (λ u. Seated (m .measure) s u v v′ (marks rows) ms (c .args .c) i to) (sym es)
-          (seated-kid (g .M·Metric·met .lawful) s v (marks rows) (c .args .c) i (c .pre .ready) s₂ v₂ v′ ms to f (long-values (m .means) rows) r₄ ev em);
+          (seated-child (g .M·Metric·met .lawful) s v (marks rows) (c .args .c) i (c .pre .ready) s₂ v₂ v′ ms to f (long-values (m .means) rows) r₄ ev em);
       indexed = indexed-moved _ _ _ _ _ _ _ (w .same) (w .index) (indexed-moved _ _ _ _ _ _ _ (b .same) (b .index) (p .indexed));
     }

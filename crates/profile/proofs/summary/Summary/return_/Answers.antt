@@ -11,7 +11,7 @@ use Rattle.rows.specs.Sound.{Sound}
 use Rattle.trace.specs.declared.record.Record.the-variants.{Return}
 use Rattle.rows.proofs.Views.{long, long-values}
 use Rattle.rows.proofs.Sounds.{whole, narrow}
-use Rattle.profile.proofs.Giving.{Taken, taken, held, kid-sound, kid-taken, root-sound, root-taken, root-refused}
+use Rattle.profile.proofs.Giving.{Taken, taken, held, child-sound, child-taken, root-sound, root-taken, root-refused}
 use Rattle.profile.proofs.summary.Summary.return_.Needs as need
 
 pub ghost-self : need.ghost-self
@@ -21,7 +21,7 @@ ghost-self g c =
     let rows = a .rows .now in
     let f = sym (c .at-open-seen .ensures .function) in
     let p = sym (c .at-open-seen .ensures .parent) in
-    let w = subst (λ x. Sound (shapes rows) (a .count) (a .level) x) p (kid-sound (g .M·Metric·met .lawful) (shapes rows) (values (m .means) rows) (a .count) (a .level) (a .current) (whole (a .sound)) (long-values (m .means) rows) (omega (arith, f))) in
+    let w = subst (λ x. Sound (shapes rows) (a .count) (a .level) x) p (child-sound (g .M·Metric·met .lawful) (shapes rows) (values (m .means) rows) (a .count) (a .level) (a .current) (whole (a .sound)) (long-values (m .means) rows) (omega (arith, f))) in
     (a .fits, (a .few, (w .opened, (∣ w ∣₁, (a .indexed, tt)))))
 
 pub returns-then-seen-ne0 : need.returns-then-seen-ne0
@@ -32,7 +32,7 @@ returns-then-seen-ne0 g c =
     let f = sym (c .at-open-seen .ensures .function) in
     let p = sym (c .at-open-seen .ensures .parent) in
     taken {m = m .measure} _ _ _ (subst (λ x. Taken (m .measure) (held (m .measure) (shapes rows) (values (m .means) rows) (a .count) (a .current) (length rows)) (held (m .measure) (shapes rows) (values (m .means) rows) (a .count) x (length rows)) Return) p
-    (kid-taken (g .M·Metric·met .lawful) (shapes rows) (values (m .means) rows) (a .count) (a .level) (a .current) (whole (a .sound)) (long-values (m .means) rows) (length rows) (sym (long rows)) (omega (arith, f))))
+    (child-taken (g .M·Metric·met .lawful) (shapes rows) (values (m .means) rows) (a .count) (a .level) (a .current) (whole (a .sound)) (long-values (m .means) rows) (length rows) (sym (long rows)) (omega (arith, f))))
 
 pub returns-then-n-self : need.returns-then-n-self
 returns-then-n-self g c =
