@@ -14,6 +14,9 @@ use crate::rejection::Rejection;
 use crate::row::Row;
 use metrics::metric::Metric;
 
+// The most functions that a path has.
+const MOST_DEPTH: usize = 512;
+
 // The row of the function below `up`, made with the unit where there is none.
 pub(crate) fn place<M: Metric>(rows: &mut [Row<M>], count: usize, up: usize, function: u16) -> usize
     requires fits { ⌜ count < length (now rows) ⌝ }
@@ -48,7 +51,7 @@ pub(crate) fn reach<M: Metric>(
     ensures reached { λ r. ⌜ Reach (measure .none) (shapes (now (rows .entry))) (shapes (now (rows .exit))) (values means (now (rows .entry))) (values means (now (rows .exit))) count up function r ⌝ }
     ensures indexed { λ r. ⌜ Reindexed (shapes (now (rows .exit))) (heads (now (rows .exit))) (links (now (rows .exit))) count r ⌝ }
 {
-    if look(rows, up).depth >= 512 {
+    if look(rows, up).depth >= MOST_DEPTH {
         return Err(Rejection::PathTooLong);
     }
     if count < rows.len() {

@@ -5,8 +5,8 @@ use Rattle.std.proofs.shelf.Tests.{cond-below}
 use Rattle.rows.proofs.Views.{long}
 use Rattle.rows.proofs.table.reach.Needs as need
 
-pub returns-then-look-ge512 : need.returns-then-look-ge512
-returns-then-look-ge512 g c = record { reached = (refl, refl, omega (arith, c .look .ensures .saw .depth)); indexed = c .pre .indexed }
+pub returns-then-look-ge-MOST-DEPTH : need.returns-then-look-ge-MOST-DEPTH
+returns-then-look-ge-MOST-DEPTH g c = record { reached = (refl, refl, omega (arith, c .look .ensures .saw .depth)); indexed = c .pre .indexed }
 
 pub returns-then-count-rows : need.returns-then-count-rows
 returns-then-count-rows g c = record { reached = c .place .ensures .reached; indexed = c .place .ensures .indexed }
