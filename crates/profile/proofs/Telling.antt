@@ -15,7 +15,7 @@ use Rattle.rows.specs.Shapes.{Shape, blank}
 use Rattle.rows.specs.Sound.{Table}
 use Rattle.rows.specs.Reading.{context, listed}
 use Rattle.rows.proofs.Sounds.{some, top-one, level-low, roots-rise}
-use Rattle.rows.proofs.Readings.{context-child, contexts-apart, depth-is, any-at, any-is}
+use Rattle.rows.proofs.Readings.{context-root, context-child, contexts-apart, depth-is, any-at, any-is}
 use Rattle.rows.proofs.Flats.{first-root}
 use Rattle.rows.proofs.Listed.{joins-own}
 
@@ -26,7 +26,14 @@ module _ (s : List Shape) (n top : ℕ) (t : Table s n top) where
       let z = top-one s n top t k h (sym (depth-is s k) ∙ ap length e) in
       (z, t .good k h .root z .parent)
 
-  -- any other row
+  -- any other row has a function
+  pub named-row : (k : ℕ) → k < n → (context s k .path ≡ [] → ⊥) → 0 < getD s k blank .function
+  named-row k h ne = ⊎-elim
+      (λ (z : getD s k blank .function ≡ 0). absurd (ne (ap (λ (x : Position). x .path) (context-root s n top t k h z))))
+      (λ (z : getD s k blank .function ≡ 0 → ⊥). omega arith)
+      (cases-eq (getD s k blank .function) 0)
+
+  -- and comes after its parent
   pub child-row : (k : ℕ) → k < n → 0 < getD s k blank .function → (getD s k blank .parent < k) × (context s k ≡ at (context s (getD s k blank .parent) .level) (getD s k blank .function ∷ context s (getD s k blank .parent) .path))
   child-row k h f = (t .good k h .child f .parent, context-child s n top t k h f)
 

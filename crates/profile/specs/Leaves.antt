@@ -39,7 +39,7 @@ pub record Tells-row {M V : Type 0} (m : Measure V) (means : M → V) (t : Tree 
   -- the root is row 0, has function 0 and itself as parent
   pub root : row-path t k ≡ [] → (k ≡ 0) × (x .function ≡ 0) × (x .parent ≡ k)
   -- any other has the parent's path, followed by its own function
-  pub child : 0 < x .function → (x .parent < k) × (row-path t k ≡ x .function ∷ row-path t (x .parent))
+  pub child : (row-path t k ≡ [] → ⊥) → (x .parent < k) × (row-path t k ≡ x .function ∷ row-path t (x .parent))
   pub value : means (x .value) ≡ tree-view m means t .value (row-path t k)
 
 -- the row of that number, none beyond the rows

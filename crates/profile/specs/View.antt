@@ -42,7 +42,7 @@ pub record Tells-row {M V : Type 0} (m : Measure V) (means : M → V) (s : Summa
   -- a row with the empty path has function 0 and itself as parent
   pub root : row-context s k .path ≡ [] → (x .function ≡ 0) × (x .parent ≡ k)
   -- any other has the parent's path, followed by its own function
-  pub child : 0 < x .function → (x .parent < k) × (row-context s k ≡ at (row-context s (x .parent) .level) (x .function ∷ row-context s (x .parent) .path))
+  pub child : (row-context s k .path ≡ [] → ⊥) → (x .parent < k) × (row-context s k ≡ at (row-context s (x .parent) .level) (x .function ∷ row-context s (x .parent) .path))
   pub value : means (x .value) ≡ view m means s .is .value (row-context s k)
 
 -- the row of that number, none beyond the rows

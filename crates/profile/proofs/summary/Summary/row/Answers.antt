@@ -10,7 +10,7 @@ use Rattle.rows.specs.Reading.{context}
 use Rattle.rows.proofs.Sounds.{whole}
 use Rattle.rows.proofs.Readings.{any-at}
 use Rattle.rows.proofs.Listed.{joins-own}
-use Rattle.profile.proofs.Telling.{root-row, child-row}
+use Rattle.profile.proofs.Telling.{root-row, named-row, child-row}
 use Rattle.profile.proofs.summary.Summary.row.Needs as need
 
 pub returns : need.returns
@@ -30,7 +30,7 @@ returns g c =
       level = q .level;
       root = λ e. let r = root-row s n (a .level) t k h e in (q .function ∙ r .0, q .parent ∙ r .1);
       child = λ f.
-          let r = child-row s n (a .level) t k h (omega (arith, q .function)) in
+          let r = child-row s n (a .level) t k h (named-row s n (a .level) t k h f) in
           (omega (arith, q .parent, r .0), r .1 ∙ sym (ap (λ p. at (context s p .level) (getD s k blank .function ∷ context s p .path)) (q .parent)) ∙ sym (ap (λ f. at (context s (c .look-seen .result .parent) .level) (f ∷ context s (c .look-seen .result .parent) .path)) (q .function)));
       value = c .value-of-value .ensures ∙ sym (joins-own (g .M·Metric·met .lawful) s v n (a .level) t k n h (omega arith));
     }

@@ -8,7 +8,7 @@ use Rattle.rows.specs.Shapes.{shapes, blank}
 use Rattle.rows.specs.Cells.{values}
 use Rattle.rows.specs.Reading.{context}
 use Rattle.rows.proofs.Sounds.{whole-table}
-use Rattle.profile.proofs.Telling.{root-row, child-row, only-root, path-value}
+use Rattle.profile.proofs.Telling.{root-row, named-row, child-row, only-root, path-value}
 use Rattle.profile.proofs.tree.Tree.row.Needs as need
 
 pub returns : need.returns
@@ -26,7 +26,7 @@ returns g c =
       within = h;
       root = λ e. let r = root-row s n 0 t k h e in (only-root s n t k h (r .0), q .function ∙ r .0, q .parent ∙ r .1);
       child = λ f.
-          let r = child-row s n 0 t k h (omega (arith, q .function)) in
+          let r = child-row s n 0 t k h (named-row s n 0 t k h f) in
           (omega (arith, q .parent, r .0), ap (λ (x : Position). x .path) (r .1) ∙ sym (ap (λ p. getD s k blank .function ∷ context s p .path) (q .parent)) ∙ sym (ap (λ f. f ∷ context s (c .look-seen .result .parent) .path) (q .function)));
       value = c .value-of-value .ensures ∙ sym (path-value s n t (g .M·Metric·met .lawful) v k h);
     }
