@@ -1,6 +1,10 @@
 pub mod Ranges
 pub mod Faults
-pub mod Kinds
 pub mod Sources
-pub mod Good
+pub mod Pieces
+pub mod Words
+pub mod Text
+pub mod TextRanged
+pub mod Meanings
+pub mod TextMeaning
 pub mod Tables

@@ -8,8 +8,9 @@ use Rattle.trace.specs.declared.record.Sample.{Sample as Measured}
 abbrev pub from_to : ℕ → ℕ → ℕ → Bool
 from_to low high n = nat_le low n && nat_le n high
 
+-- A step is any number of 32 bits and a site any of 16, which their types say.
 abbrev pub sample_in_range : Measured → Bool
-sample_in_range s = from_to 0 4294967295 s.step && (from_to 1 4294967295 s.weight && (from_to 0 65535 s.site && from_to 0 63 s.region))
+sample_in_range s = from_to 1 4294967295 s.weight && from_to 0 63 s.region
 
 abbrev pub in_range : Record → Bool
 in_range (Call f) = from_to 1 65535 f

@@ -1,7 +1,7 @@
 // Why a trace cannot be read on, and where.
 ghost use Rattle.std.specs.Prelude.{◌≡◌};
 ghost use Rattle.trace.specs.Faults.{number, fault_at};
-ghost use Rattle.trace.specs.Sources.{at_place};
+ghost use Rattle.trace.specs.Meanings.{found_at};
 
 // What is wrong with the trace.
 #[derive(Clone, Copy, PartialEq, Eq, Debug)]
@@ -61,9 +61,9 @@ pub enum Ending {
     Broken(Fault),
 }
 
-// What was read, a cause as the fault at `place`.
+// What was read, whatever it is, a cause as the fault at `place`.
 pub fn placed<T>(read: Result<T, Cause>, place: usize) -> Result<T, Fault>
-    ensures { result ≡ at_place read place }
+    ensures { result ≡ found_at read place }
 {
     match read {
         Ok(value) => Ok(value),

@@ -1,0 +1,7 @@
+use Rattle.std.proofs.Common.{◌≡◌, ◌≤◌, true, drop}
+use Rattle.trace.specs.Text.{value_after}
+use Rattle.trace.specs.Words.{all_digits}
+use Rattle.trace.proofs.line.number_of.Given as goal
+
+abbrev pub invariant-loop-digit : goal.invariant-loop-digit
+invariant-loop-digit l = (l.value ≤ 4294967295) × (all_digits (drop l.digit-index l.digits) ≡ true) × (value_after l.value (drop l.digit-index l.digits) ≡ value_after 0 l.digits)

@@ -1,0 +1,44 @@
+use Rattle.std.proofs.Common.{◌+◌, drop, Err, sym, ap, ◌∙◌}
+use Rattle.std.proofs.lemmas.Result.{err_from_is_err_and}
+use Rattle.trace.specs.Pieces.{pieces, first}
+use Rattle.trace.specs.Text.{line_record, at_place, text_records, text_ending}
+use Rattle.trace.proofs.Cutting.{part_is}
+use Rattle.trace.proofs.TextSteps.{at_end, at_fault, at_record, line_at}
+use Rattle.trace.proofs.text.TextSourceSource.next.Goals as goal
+
+pub returns-then-at-text : goal.returns-then-at-text
+returns-then-at-text c =
+    let s = c.args.self.now in
+    let xs = s.text.now in
+    let f = c.first-line-at.ensures in
+    let k = at_end xs c.first-line-at.result (text_records (drop s.at xs)) (text_ending s.at (drop s.at xs)) c.if-at-text.true f.records f.ending in
+    record { answer = k.answer; rest = k.rest; ending = k.ending }
+
+pub returns-in-err-record : goal.returns-in-err-record
+returns-in-err-record c =
+    let s = c.args.self.now in
+    let xs = s.text.now in
+    let i = c.first-line-at.result in
+    let e = c.piece-end-end.result in
+    let f = c.first-line-at.ensures in
+    let place = c.piece-end-end.ensures.place in
+    let m = line_at xs i e c.if-at-text.false (f.some c.if-at-text.false) place in
+    let l = line_record (first (pieces 10 (drop i xs))) in
+    let h = c.in-err-record.ensures ∙ ap (λ r. at_place r i) (c.read-line.ensures ∙ ap line_record (part_is 10 xs i e place)) in
+    let k = at_fault c.in-err-record.field-0.0 i l (text_records (drop (e + 1) xs)) (text_records (drop s.at xs)) (text_ending (e + 1) (drop (e + 1) xs)) (text_ending s.at (drop s.at xs)) h (sym f.records ∙ m.records) (sym f.ending ∙ m.ending) in
+    let p = err_from_is_err_and c.from-residual.result c.from-residual.ensures.1 in
+    record { answer = p.1 ∙ ap Err p.2 ∙ k.answer; rest = k.rest; ending = k.ending }
+
+pub returns : goal.returns
+returns c =
+    let s = c.args.self.now in
+    let xs = s.text.now in
+    let i = c.first-line-at.result in
+    let e = c.piece-end-end.result in
+    let f = c.first-line-at.ensures in
+    let place = c.piece-end-end.ensures.place in
+    let m = line_at xs i e c.if-at-text.false (f.some c.if-at-text.false) place in
+    let l = line_record (first (pieces 10 (drop i xs))) in
+    let h = c.in-ok-record.ensures ∙ ap (λ r. at_place r i) (c.read-line.ensures ∙ ap line_record (part_is 10 xs i e place)) in
+    let k = at_record c.in-ok-record.record i l (text_records (drop (e + 1) xs)) (text_records (drop s.at xs)) (text_ending (e + 1) (drop (e + 1) xs)) (text_ending s.at (drop s.at xs)) h (sym f.records ∙ m.records) (sym f.ending ∙ m.ending) in
+    record { answer = k.answer; rest = k.rest; ending = k.ending }

@@ -1,0 +1,76 @@
+// A trace written as text, one record to a line.
+ghost use Rattle.std.specs.Prelude.{◌≡◌, ◌<◌, length, drop, ◌≢◌, slice_index};
+ghost use Rattle.trace.specs.Text.{text_records, text_ending, records_left, ending_left, at_place};
+ghost use Rattle.trace.specs.TextRanged.{text_ranged};
+
+use crate::fault::{Cause, Fault};
+use crate::line::read_line;
+use crate::piece::piece_end;
+use crate::record::Record;
+use crate::source::Source;
+
+// The records of a text. A line ends at a line end or with the text, and an empty one is skipped.
+#[derive(Drop)]
+pub struct TextSource<'a> {
+    text: &'a [u8],
+    // where the next line begins; at or past the text's end where none is left
+    at: usize,
+}
+
+impl<'a> TextSource<'a> {
+    // All records of the text.
+    pub fn new(text: &'a [u8]) -> TextSource<'a>
+        ensures records { records_left result ≡ text_records text.now }
+        ensures ending { ending_left result ≡ text_ending 0 text.now }
+    {
+        TextSource { text, at: 0 }
+    }
+}
+
+impl Source for TextSource<'_> {
+    ghost records = { λ s. records_left s };
+
+    ghost ending = { λ s. ending_left s };
+
+    ghost ranged = { λ s. text_ranged (drop s.at s.text.now) };
+
+    // The place moves on only past a line that is a record, so that a fault and the end are answered again.
+    fn next(&mut self) -> Result<Option<Record>, Fault> {
+        let text = self.text;
+        let at = first_line(text, self.at);
+        if at >= text.len() {
+            return Ok(None);
+        }
+        let end = piece_end(text, at, b'\n');
+        let record = placed(read_line(&text[at..end]), at)?;
+        self.at = end + 1;
+        Ok(Some(record))
+    }
+}
+
+// The place of the first line from `at` on that is not empty, or the text's end where there is none.
+fn first_line(text: &[u8], at: usize) -> usize
+    ensures records { text_records (drop result text.now) ≡ text_records (drop at text.now) }
+    ensures ending { text_ending result (drop result text.now) ≡ text_ending at (drop at text.now) }
+    ensures some { result < length text.now → slice_index text.now result ≢ 10 }
+{
+    let mut place = at;
+    while place < text.len() && text[place] == b'\n' {
+        place += 1;
+    }
+    place
+}
+
+// A cause as the fault of the line at `place`, where it arises.
+fn placed(read: Result<Record, Cause>, place: usize) -> Result<Record, Fault>
+    ensures { result ≡ at_place read place }
+{
+    match read {
+        Ok(record) => Ok(record),
+        Err(cause) => Err(Fault {
+            cause,
+            place,
+            passed: 0,
+        }),
+    }
+}

@@ -1,5 +1,0 @@
-pub mod Cutting
-pub mod WordSteps
-pub mod NumberSteps
-pub mod LineSteps
-pub mod TextSteps

@@ -1,7 +1,0 @@
-use Rattle.std.proofs.Common.{◌≡◌, ◌≤◌, true, drop}
-use Rattle.trace_text.specs.Text.{value_after}
-use Rattle.trace_text.specs.Words.{all_digits}
-use Rattle.trace_text.proofs.line.number_of.Given as goal
-
-abbrev pub invariant-loop-digit : goal.invariant-loop-digit
-invariant-loop-digit l = (l.value ≤ 4294967295) × (all_digits (drop l.digit-index l.digits) ≡ true) × (value_after l.value (drop l.digit-index l.digits) ≡ value_after 0 l.digits)

@@ -1,4 +1,0 @@
-pub mod Pieces
-pub mod Words
-pub mod Text
-pub mod TextRanged
