@@ -3,8 +3,8 @@ use Rattle.trace.specs.Text.{value_after}
 use Rattle.trace.proofs.NumberSteps.{digit_at, value_more, value_all, value_grows, too_large, fitting}
 use Rattle.trace.proofs.line.number_of.Goals as goal
 
-pub overflow-sub-digit : goal.overflow-sub-digit
-overflow-sub-digit c = (digit_at c.args.digits.now c.loop-digit.digit-index c.loop-digit-test.true c.loop-digit.invariant.1).low
+pub overflow_sub-digit : goal.overflow_sub-digit
+overflow_sub-digit c = (digit_at c.args.digits.now c.loop-digit.digit-index c.loop-digit-test.true c.loop-digit.invariant.1).low
 
 pub returns-then-value-gt-LARGEST : goal.returns-then-value-gt-LARGEST
 returns-then-value-gt-LARGEST c =

@@ -13,11 +13,11 @@ returns-then-at-self c =
     let k = at_end _ (ap (table_meaning s.at) (drop_all s.at s.table.now c.if-at-self.true)) in
     record { answer = k.answer; rest = k.rest; ending = k.ending }
 
-pub returns-then-not-is-in-range : goal.returns-then-not-is-in-range
-returns-then-not-is-in-range c =
+pub returns-then-not-is_in_range : goal.returns-then-not-is_in_range
+returns-then-not-is_in_range c =
     let s = c.args.self.now in
     let r = get_or s.table.now s.at (Call 0) in
-    let bad : in_range r ≡ false = sym c.if-not-is-in-range.ensures in
+    let bad : in_range r ≡ false = sym c.if-not-is_in_range.ensures in
     let k = at_fault _ (table_meaning (s.at + 1) (drop (s.at + 1) s.table.now)) (ranged_only r) s.at _ (ap (table_meaning s.at) (drop_more s.table.now s.at (Call 0) c.if-at-self.false)) (ap Err c.at.ensures ∙ rw bad) in
     record { answer = k.answer; rest = k.rest; ending = k.ending }
 
@@ -25,6 +25,6 @@ pub returns : goal.returns
 returns c =
     let s = c.args.self.now in
     let r = get_or s.table.now s.at (Call 0) in
-    let good : in_range r ≡ true = sym c.if-not-is-in-range.ensures in
+    let good : in_range r ≡ true = sym c.if-not-is_in_range.ensures in
     let k = at_record _ (table_meaning (s.at + 1) (drop (s.at + 1) s.table.now)) (ranged_only r) s.at _ (ap (table_meaning s.at) (drop_more s.table.now s.at (Call 0) c.if-at-self.false)) (rw good) in
     record { answer = k.answer; rest = k.rest; ending = k.ending }

@@ -10,35 +10,35 @@ pub returns-then-at-text : goal.returns-then-at-text
 returns-then-at-text c =
     let s = c.args.self.now in
     let xs = s.text.now in
-    let f = c.first-line-at.ensures in
-    let k = at_end xs c.first-line-at.result (text_records (drop s.at xs)) (text_ending s.at (drop s.at xs)) c.if-at-text.true f.records f.ending in
+    let f = c.first_line-at.ensures in
+    let k = at_end xs c.first_line-at.result (text_records (drop s.at xs)) (text_ending s.at (drop s.at xs)) c.if-at-text.true f.records f.ending in
     record { answer = k.answer; rest = k.rest; ending = k.ending }
 
-pub returns-in-err-record : goal.returns-in-err-record
-returns-in-err-record c =
+pub returns-in_err-record : goal.returns-in_err-record
+returns-in_err-record c =
     let s = c.args.self.now in
     let xs = s.text.now in
-    let i = c.first-line-at.result in
-    let e = c.piece-end-end.result in
-    let f = c.first-line-at.ensures in
-    let place = c.piece-end-end.ensures.place in
+    let i = c.first_line-at.result in
+    let e = c.piece_end-end.result in
+    let f = c.first_line-at.ensures in
+    let place = c.piece_end-end.ensures.place in
     let m = line_at xs i e c.if-at-text.false (f.some c.if-at-text.false) place in
     let l = line_record (first (pieces 10 (drop i xs))) in
-    let h = c.in-err-record.ensures ∙ ap (λ r. at_place r i) (c.read-line.ensures ∙ ap line_record (part_is 10 xs i e place)) in
-    let k = at_fault c.in-err-record.field-0.0 i l (text_records (drop (e + 1) xs)) (text_records (drop s.at xs)) (text_ending (e + 1) (drop (e + 1) xs)) (text_ending s.at (drop s.at xs)) h (sym f.records ∙ m.records) (sym f.ending ∙ m.ending) in
-    let p = err_from_is_err_and c.from-residual.result c.from-residual.ensures.1 in
+    let h = c.in_err-record.ensures ∙ ap (λ r. at_place r i) (c.read_line.ensures ∙ ap line_record (part_is 10 xs i e place)) in
+    let k = at_fault c.in_err-record.field-0.0 i l (text_records (drop (e + 1) xs)) (text_records (drop s.at xs)) (text_ending (e + 1) (drop (e + 1) xs)) (text_ending s.at (drop s.at xs)) h (sym f.records ∙ m.records) (sym f.ending ∙ m.ending) in
+    let p = err_from_is_err_and c.from_residual.result c.from_residual.ensures.1 in
     record { answer = p.1 ∙ ap Err p.2 ∙ k.answer; rest = k.rest; ending = k.ending }
 
 pub returns : goal.returns
 returns c =
     let s = c.args.self.now in
     let xs = s.text.now in
-    let i = c.first-line-at.result in
-    let e = c.piece-end-end.result in
-    let f = c.first-line-at.ensures in
-    let place = c.piece-end-end.ensures.place in
+    let i = c.first_line-at.result in
+    let e = c.piece_end-end.result in
+    let f = c.first_line-at.ensures in
+    let place = c.piece_end-end.ensures.place in
     let m = line_at xs i e c.if-at-text.false (f.some c.if-at-text.false) place in
     let l = line_record (first (pieces 10 (drop i xs))) in
-    let h = c.in-ok-record.ensures ∙ ap (λ r. at_place r i) (c.read-line.ensures ∙ ap line_record (part_is 10 xs i e place)) in
-    let k = at_record c.in-ok-record.record i l (text_records (drop (e + 1) xs)) (text_records (drop s.at xs)) (text_ending (e + 1) (drop (e + 1) xs)) (text_ending s.at (drop s.at xs)) h (sym f.records ∙ m.records) (sym f.ending ∙ m.ending) in
+    let h = c.in_ok-record.ensures ∙ ap (λ r. at_place r i) (c.read_line.ensures ∙ ap line_record (part_is 10 xs i e place)) in
+    let k = at_record c.in_ok-record.record i l (text_records (drop (e + 1) xs)) (text_records (drop s.at xs)) (text_ending (e + 1) (drop (e + 1) xs)) (text_ending s.at (drop s.at xs)) h (sym f.records ∙ m.records) (sym f.ending ∙ m.ending) in
     record { answer = k.answer; rest = k.rest; ending = k.ending }
