@@ -1,4 +1,7 @@
 // Reads a text trace from standard input and prints its calling context tree.
+
+#![tactic(auto)]
+
 use anyhow::anyhow;
 use printing::{Printed, print_trace};
 use std::io::Read;

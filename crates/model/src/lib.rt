@@ -1,5 +1,8 @@
 // What a profile is: the definitions of positions, contexts, summaries and trees of record lists, and their laws.
 // Nothing here runs; each function's contract holds laws that the definitions have for every metric.
+
+#![tactic(auto)]
+
 ghost use Rattle.std.specs.Prelude.{◌≡◌};
 ghost use Rattle.model.specs.Summaries.{InOrder, Joins, JoinsRows, Adds, Prefixes, Rowless};
 ghost use Rattle.model.specs.Trees.{Values, Paths, Inclusive};

@@ -3,7 +3,7 @@ use Rattle.std.specs.Prelude.{◌≡◌, ℕ, Bool, cond, List, length, Some, No
 use Rattle.trace.specs.declared.record.Record.{Record}
 use Rattle.trace.specs.declared.fault.Ending.{Ending}
 use Rattle.trace.specs.Faults.{number as cause-number}
-use Rattle.trace_text.specs.Text.{text_meaning}
+use Rattle.trace.specs.Text.{text_records, text_ending}
 use Rattle.metrics.specs.Measures.{Measure}
 use Rattle.metrics.specs.Sums.{Capped, calls, work}
 use Rattle.metrics.specs.Pairs.{pair}
@@ -57,7 +57,7 @@ pub record Reading (text : List ℕ) (p : Printed) : Type 0 where
   pub ending : Ending
   pub count : ℕ
   pub stop : Stop
-  pub reads : Reads cost (fresh cost 1024) left (text_meaning 0 text).records rest (text_meaning 0 text).ending ending 65538 count stop
+  pub reads : Reads cost (fresh cost 1024) left (text_records text) rest (text_ending 0 text) ending 65538 count stop
   pub unlimited : stop ≡ Limit → ⊥
   pub shows : Shows p (stopping count stop)
 

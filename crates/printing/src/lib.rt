@@ -1,4 +1,7 @@
 // From the bytes of a text trace to what is printed: the page of its calling context tree, or the one line of a stop.
+
+#![tactic(auto)]
+
 ghost use Rattle.std.specs.Prelude.{◌≡◌, ℕ, ◌+◌, ◌<◌, ◌≤◌, length, IfOk, Some, None, vec_len, ◌≢◌};
 ghost use Rattle.std.specs.List.{AllByRecursion as All};
 ghost use Rattle.rows.specs.ShapeColumn.{IsShape};
@@ -18,7 +21,7 @@ use report::page::{Footer, Name, PageLine, StopLine, page_text, stop_text};
 use rows::row::Row;
 use rows::shape::ShapeRow;
 use std::alloc::{AllocError, Global};
-use trace_text::source::TextSource;
+use trace::text::TextSource;
 
 // What is measured for a page: calls beside work.
 pub type Cost = Pair<Calls, Work>;

@@ -1,5 +1,7 @@
 // Pages and stop lines of whole traces, compared with what they should be.
 
+#![tactic(auto)]
+
 #[cfg(test)]
 mod tests {
     use printing::{Printed, print_trace};

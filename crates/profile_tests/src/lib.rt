@@ -1,5 +1,7 @@
 // Summaries and trees on examples: edges of the table, of the path and of the ranges, and what a rejected call leaves.
 
+#![tactic(auto)]
+
 #[cfg(test)]
 mod tests {
     use metrics::calls::Calls;

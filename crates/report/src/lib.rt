@@ -1,5 +1,7 @@
 // The report on a profile: the outline of its rows, and the lines of text that are printed.
 
+#![tactic(auto)]
+
 pub mod fault;
 mod order;
 pub mod outline;

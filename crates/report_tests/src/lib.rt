@@ -1,5 +1,7 @@
 // Tests of the crate `report`: shapes and their outlines, and the lines of text.
 
+#![tactic(auto)]
+
 #[cfg(test)]
 mod shapes;
 #[cfg(test)]

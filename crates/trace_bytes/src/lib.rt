@@ -1,5 +1,7 @@
 // Traces written as bytes: a byte for the kind of a record, and its fields as numbers of one to five bytes.
 
+#![tactic(auto)]
+
 pub mod number;
 mod record;
 pub mod source;

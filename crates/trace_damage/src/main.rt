@@ -1,5 +1,8 @@
 // Reads damaged traces and prints what came of each: every beginning of a good trace, and every change of one byte of it. What it must
 // print is written by tools/damage_reference.py, a reader of its own.
+
+#![tactic(auto)]
+
 use std::alloc::{AllocError, Global};
 use std::{fmt, io};
 use trace::fault::{Ending, Fault};

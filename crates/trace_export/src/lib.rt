@@ -1,5 +1,8 @@
 // Both readers of traces for a caller in another language: it hands in a whole trace and is told one number, the digest of all that was
 // read, so that two readers can be compared by it.
+
+#![tactic(auto)]
+
 ghost use Rattle.std.specs.Prelude.{◌≡◌};
 ghost use Rattle.trace_bytes.specs.Bytes.{bytes_meaning};
 ghost use Rattle.trace_text.specs.Text.{text_meaning};

@@ -1,5 +1,8 @@
 // What the formats of a trace keep, in the words of those who use them. Nothing here runs: each contract holds laws of the very
 // definitions that the contracts of the sources cite, so that the laws are about what the sources deliver.
+
+#![tactic(auto)]
+
 ghost use Rattle.trace_laws.specs.ByteLaws.{BytesReadBack, BytesWithin, BytesBefore, BytesAfter};
 ghost use Rattle.trace_laws.specs.Spelling.{SpellingsRead, OnlySpellingsRead};
 ghost use Rattle.trace_laws.specs.TableLaws.{TableRead, TableWithin, TableFront, TableBefore, TableAfter};

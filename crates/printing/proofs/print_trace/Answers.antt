@@ -1,4 +1,4 @@
-use Rattle.std.proofs.Common.{ap, ◌∙◌}
+use Rattle.std.proofs.Common.{◌≡◌, ◌≤◌, length, sym, refl, ap, ◌∙◌, arith}
 use Rattle.profile.specs.View.{fresh}
 use Rattle.printing.specs.Prints.{cost}
 use Rattle.printing.proofs.Printing.{below_limit, printed}
@@ -6,17 +6,17 @@ use Rattle.printing.proofs.print_trace.Goals as goal
 
 pub stop-of-requires : goal.stop-of-requires
 stop-of-requires c =
-    below_limit c.args.text.now _ _ _ _ _ _ _ _ c.read-in-read.ensures.reads
-    (c.new-summary.ensures ∙ ap (fresh cost) (c.as-mut-slice.ensures.len ∙ c.in-ok-table.ensures.len)) (ap (λ m. m.records) c.new-source.ensures) (ap (λ m. m.ending) c.new-source.ensures) c.if-text-gt-MOST-BYTES.false
+    below_limit c.args.text.now _ _ _ _ _ _ _ _ c.read-in-read.ensures
+    (c.new-summary.ensures ∙ ap (fresh cost) (c.as-mut-slice.ensures.len ∙ c.in-ok-table.ensures.len)) c.new-source.ensures.records c.new-source.ensures.ending c.if-text-gt-MOST-BYTES.false
 
 pub returns-in-Some : goal.returns-in-Some
 returns-in-Some c =
-    printed c.args.text.now _ _ _ _ _ _ _ _ c.read-in-read.ensures.reads
-    (c.new-summary.ensures ∙ ap (fresh cost) (c.as-mut-slice.ensures.len ∙ c.in-ok-table.ensures.len)) (ap (λ m. m.records) c.new-source.ensures) (ap (λ m. m.ending) c.new-source.ensures) c.if-text-gt-MOST-BYTES.false
+    printed c.args.text.now _ _ _ _ _ _ _ _ c.read-in-read.ensures
+    (c.new-summary.ensures ∙ ap (fresh cost) (c.as-mut-slice.ensures.len ∙ c.in-ok-table.ensures.len)) c.new-source.ensures.records c.new-source.ensures.ending c.if-text-gt-MOST-BYTES.false
     c.stopped-in-Some.result _ c.in-Some.ensures c.stopped-in-Some.ensures
 
 pub returns : goal.returns
 returns c =
-    printed c.args.text.now _ _ _ _ _ _ _ _ c.read-in-read.ensures.reads
-    (c.new-summary.ensures ∙ ap (fresh cost) (c.as-mut-slice.ensures.len ∙ c.in-ok-table.ensures.len)) (ap (λ m. m.records) c.new-source.ensures) (ap (λ m. m.ending) c.new-source.ensures) c.if-text-gt-MOST-BYTES.false
+    printed c.args.text.now _ _ _ _ _ _ _ _ c.read-in-read.ensures
+    (c.new-summary.ensures ∙ ap (fresh cost) (c.as-mut-slice.ensures.len ∙ c.in-ok-table.ensures.len)) c.new-source.ensures.records c.new-source.ensures.ending c.if-text-gt-MOST-BYTES.false
     c.paged.result _ c.in-None.ensures c.paged.ensures
