@@ -12,18 +12,18 @@ use metrics::metric::Metric;
 
 // What holds of the summary of every list of records.
 pub fn summary_laws<M: Metric>()
-    ensures in_order { InOrder measure }
-    ensures joins { Joins measure }
-    ensures rows { JoinsRows measure }
-    ensures adds { Adds measure }
-    ensures prefixes { Prefixes measure }
-    ensures counted { Counted measure }
-    ensures rowless { Rowless measure }
+    ensures in_order { InOrder M.measure }
+    ensures joins { Joins M.measure }
+    ensures rows { JoinsRows M.measure }
+    ensures adds { Adds M.measure }
+    ensures prefixes { Prefixes M.measure }
+    ensures counted { Counted M.measure }
+    ensures rowless { Rowless M.measure }
 {}
 
 // What holds of the tree of every list of records.
 pub fn tree_laws<M: Metric>()
-    ensures values { Values measure }
-    ensures paths { Paths measure }
-    ensures inclusive { Inclusive measure }
+    ensures values { Values M.measure }
+    ensures paths { Paths M.measure }
+    ensures inclusive { Inclusive M.measure }
 {}

@@ -63,5 +63,5 @@ pub fn read_in<S: Source, M: Metric>(
 
 // What holds of every read-in: it can only come out in one way.
 pub fn reading_laws<M: Metric>()
-    ensures { ReadsFixed measure }
+    ensures { ReadsFixed M.measure }
 {}

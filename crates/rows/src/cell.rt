@@ -25,7 +25,7 @@ pub fn look<M>(rows: &[Row<M>], i: usize) -> Seen
 // The value of the row at `at`.
 pub fn value_of<M: Metric>(rows: &[Row<M>], at: usize) -> M
     requires { at < length rows.now }
-    ensures { means result ≡ slice_index_or (values means rows.now) at measure.none }
+    ensures { M.means result ≡ slice_index_or (values M.means rows.now) at M.measure.none }
 {
     rows[at].value
 }
@@ -51,7 +51,7 @@ pub(crate) fn note<M: Metric>(rows: &mut [Row<M>], i: usize, to: usize)
     requires row { i < length rows.old }
     requires small { to ≤ 65535 }
     ensures same { shapes rows.new ≡ shapes rows.old }
-    ensures held { values means rows.new ≡ values means rows.old }
+    ensures held { values M.means rows.new ≡ values M.means rows.old }
     ensures noted { marks rows.new ≡ slice_set (marks rows.old) i to }
     ensures index { IndexSame (heads rows.old) (heads rows.new) (links rows.old) (links rows.new) }
 {
@@ -62,7 +62,7 @@ pub(crate) fn note<M: Metric>(rows: &mut [Row<M>], i: usize, to: usize)
 pub(crate) fn set_value<M: Metric>(rows: &mut [Row<M>], i: usize, value: M)
     requires { i < length rows.old }
     ensures same { shapes rows.new ≡ shapes rows.old }
-    ensures held { values means rows.new ≡ slice_set (values means rows.old) i (means value) }
+    ensures held { values M.means rows.new ≡ slice_set (values M.means rows.old) i (M.means value) }
     ensures noted { marks rows.new ≡ marks rows.old }
     ensures index { IndexSame (heads rows.old) (heads rows.new) (links rows.old) (links rows.new) }
 {
@@ -74,7 +74,7 @@ pub(crate) fn set_head<M: Metric>(rows: &mut [Row<M>], i: usize, first: usize)
     requires row { i < length rows.old }
     requires small { first ≤ 65535 }
     ensures same { shapes rows.new ≡ shapes rows.old }
-    ensures held { values means rows.new ≡ values means rows.old }
+    ensures held { values M.means rows.new ≡ values M.means rows.old }
     ensures noted { marks rows.new ≡ marks rows.old }
     ensures head { heads rows.new ≡ slice_set (heads rows.old) i first }
     ensures link { links rows.new ≡ links rows.old }
@@ -87,7 +87,7 @@ pub(crate) fn set_next<M: Metric>(rows: &mut [Row<M>], i: usize, after: usize)
     requires row { i < length rows.old }
     requires small { after ≤ 65535 }
     ensures same { shapes rows.new ≡ shapes rows.old }
-    ensures held { values means rows.new ≡ values means rows.old }
+    ensures held { values M.means rows.new ≡ values M.means rows.old }
     ensures noted { marks rows.new ≡ marks rows.old }
     ensures head { heads rows.new ≡ heads rows.old }
     ensures link { links rows.new ≡ slice_set (links rows.old) i after }
@@ -107,7 +107,7 @@ pub(crate) fn put<M: Metric>(
     requires row { n < length rows.old }
     requires small { (level ≤ 65535) × (parent ≤ 65535) × (depth ≤ 65535) }
     ensures same { shapes rows.new ≡ slice_set (shapes rows.old) n (written level function parent depth) }
-    ensures held { values means rows.new ≡ slice_set (values means rows.old) n measure.none }
+    ensures held { values M.means rows.new ≡ slice_set (values M.means rows.old) n M.measure.none }
     ensures noted { marks rows.new ≡ marks rows.old }
     ensures index { IndexSame (heads rows.old) (heads rows.new) (links rows.old) (links rows.new) }
 {
@@ -130,7 +130,7 @@ pub(crate) fn put<M: Metric>(
 pub fn book<M: Metric>(rows: &mut [Row<M>], i: usize, value: M)
     requires { i < length rows.old }
     ensures same { shapes rows.new ≡ shapes rows.old }
-    ensures held { values means rows.new ≡ slice_set (values means rows.old) i (measure.join (slice_index_or (values means rows.old) i measure.none) (means value)) }
+    ensures held { values M.means rows.new ≡ slice_set (values M.means rows.old) i (M.measure.join (slice_index_or (values M.means rows.old) i M.measure.none) (M.means value)) }
     ensures noted { marks rows.new ≡ marks rows.old }
     ensures index { IndexSame (heads rows.old) (heads rows.new) (links rows.old) (links rows.new) }
 {

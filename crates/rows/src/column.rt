@@ -14,7 +14,7 @@ use metrics::metric::Metric;
 fn copy_value<M: Metric>(rows: &[Row<M>], column: &mut [M], k: usize)
     requires row { k < length rows.now }
     requires place { k < length column.old }
-    ensures { meanings means column.new ≡ slice_set (meanings means column.old) k (slice_index_or (values means rows.now) k measure.none) }
+    ensures { meanings M.means column.new ≡ slice_set (meanings M.means column.old) k (slice_index_or (values M.means rows.now) k M.measure.none) }
 {
     column[k] = value_of(rows, k);
 }
@@ -22,7 +22,7 @@ fn copy_value<M: Metric>(rows: &[Row<M>], column: &mut [M], k: usize)
 // The join of two values of a column.
 fn both<M: Metric>(column: &[M], p: usize, r: usize) -> M
     requires { (p < length column.now) × (r < length column.now) }
-    ensures { means result ≡ measure.join (slice_index_or (meanings means column.now) p measure.none) (slice_index_or (meanings means column.now) r measure.none) }
+    ensures { M.means result ≡ M.measure.join (slice_index_or (meanings M.means column.now) p M.measure.none) (slice_index_or (meanings M.means column.now) r M.measure.none) }
 {
     column[p].join(column[r])
 }
@@ -30,7 +30,7 @@ fn both<M: Metric>(column: &[M], p: usize, r: usize) -> M
 // Joins the value at r to that at p.
 fn hand_up<M: Metric>(column: &mut [M], p: usize, r: usize)
     requires { (p < length column.old) × (r < length column.old) }
-    ensures { meanings means column.new ≡ handed measure (meanings means column.old) p r }
+    ensures { meanings M.means column.new ≡ handed M.measure (meanings M.means column.old) p r }
 {
     let value = both(column, p, r);
     column[p] = value;
@@ -40,7 +40,7 @@ fn hand_up<M: Metric>(column: &mut [M], p: usize, r: usize)
 fn copy_all<M: Metric>(rows: &[Row<M>], n: usize, column: &mut [M])
     requires fits { n ≤ length rows.now }
     requires long { n ≤ length column.old }
-    ensures { Copied measure.none (values means rows.now) (meanings means column.old) (meanings means column.new) n }
+    ensures { Copied M.measure.none (values M.means rows.now) (meanings M.means column.old) (meanings M.means column.new) n }
 {
     for k in 0..n {
         copy_value(rows, column, k);
@@ -53,7 +53,7 @@ pub fn fill<M: Metric>(rows: &[Row<M>], n: usize, column: &mut [M])
     requires fits { n ≤ length rows.now }
     requires table { Table (shapes rows.now) n 0 }
     requires long { n ≤ length column.old }
-    ensures { Filled measure (shapes rows.now) (values means rows.now) (meanings means column.old) (meanings means column.new) n }
+    ensures { Filled M.measure (shapes rows.now) (values M.means rows.now) (meanings M.means column.old) (meanings M.means column.new) n }
 {
     copy_all(rows, n, column);
     let mut i = n;

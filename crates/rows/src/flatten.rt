@@ -16,10 +16,10 @@ use metrics::metric::Metric;
 fn take<M: Metric>(rows: &mut [Row<M>], i: usize) -> M
     requires { i < length rows.old }
     ensures same { shapes rows.new ≡ shapes rows.old }
-    ensures held { values means rows.new ≡ slice_set (values means rows.old) i measure.none }
+    ensures held { values M.means rows.new ≡ slice_set (values M.means rows.old) i M.measure.none }
     ensures noted { marks rows.new ≡ marks rows.old }
     ensures index { IndexSame (heads rows.old) (heads rows.new) (links rows.old) (links rows.new) }
-    ensures value { means result ≡ slice_index_or (values means rows.old) i measure.none }
+    ensures value { M.means result ≡ slice_index_or (values M.means rows.old) i M.measure.none }
 {
     let value = value_of(rows, i);
     set_value(rows, i, M::unit());
@@ -32,7 +32,7 @@ fn flatten_row<M: Metric>(rows: &mut [Row<M>], c: usize, i: usize) -> usize
     requires few { length rows.old ≤ 65535 }
     requires ready { Ready (shapes rows.old) (marks rows.old) c i }
     requires indexed { Indexed (shapes rows.old) (heads rows.old) (links rows.old) c }
-    ensures seated { Seated measure (shapes rows.old) (shapes rows.new) (values means rows.old) (values means rows.new) (marks rows.old) (marks rows.new) c i result }
+    ensures seated { Seated M.measure (shapes rows.old) (shapes rows.new) (values M.means rows.old) (values M.means rows.new) (marks rows.old) (marks rows.new) c i result }
     ensures indexed { Indexed (shapes rows.new) (heads rows.new) (links rows.new) (max c (result + 1)) }
 {
     let seen = look(rows, i);
@@ -55,7 +55,7 @@ pub fn flatten<M: Metric>(rows: &mut [Row<M>], n: usize, top: usize) -> usize
     requires fits { n ≤ length rows.old }
     requires few { length rows.old ≤ 65535 }
     requires table { Table (shapes rows.old) n top }
-    ensures { Flattening measure (shapes rows.old) (shapes rows.new) (values means rows.old) (values means rows.new) (marks rows.new) result n }
+    ensures { Flattening M.measure (shapes rows.old) (shapes rows.new) (values M.means rows.old) (values M.means rows.new) (marks rows.new) result n }
 {
     clear(rows);
     link(rows, 0);

@@ -24,7 +24,7 @@ fn slot_of(places: usize, up: usize, function: u16) -> usize
 // Empties every chain.
 pub fn clear<M: Metric>(rows: &mut [Row<M>])
     ensures same { shapes rows.new ≡ shapes rows.old }
-    ensures held { values means rows.new ≡ values means rows.old }
+    ensures held { values M.means rows.new ≡ values M.means rows.old }
     ensures noted { marks rows.new ≡ marks rows.old }
     ensures indexed { Indexed (shapes rows.new) (heads rows.new) (links rows.new) 0 }
 {
@@ -39,7 +39,7 @@ pub(crate) fn link<M: Metric>(rows: &mut [Row<M>], n: usize)
     requires few { length rows.old ≤ 65535 }
     requires indexed { Indexed (shapes rows.old) (heads rows.old) (links rows.old) n }
     ensures same { shapes rows.new ≡ shapes rows.old }
-    ensures held { values means rows.new ≡ values means rows.old }
+    ensures held { values M.means rows.new ≡ values M.means rows.old }
     ensures noted { marks rows.new ≡ marks rows.old }
     ensures indexed { Indexed (shapes rows.new) (heads rows.new) (links rows.new) (suc n) }
 {
@@ -64,7 +64,7 @@ pub fn push<M: Metric>(
     requires small { (level ≤ 65535) × (parent ≤ 65535) × (depth ≤ 65535) }
     requires indexed { Indexed (shapes rows.old) (heads rows.old) (links rows.old) n }
     ensures same { shapes rows.new ≡ slice_set (shapes rows.old) n (written level function parent depth) }
-    ensures held { values means rows.new ≡ slice_set (values means rows.old) n measure.none }
+    ensures held { values M.means rows.new ≡ slice_set (values M.means rows.old) n M.measure.none }
     ensures noted { marks rows.new ≡ marks rows.old }
     ensures indexed { Indexed (shapes rows.new) (heads rows.new) (links rows.new) (suc n) }
 {

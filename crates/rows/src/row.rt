@@ -26,7 +26,7 @@ pub struct Row<M> {
 impl<M: Metric> Row<M> {
     // A row to make a table of: it stands for nothing yet.
     pub fn empty() -> Row<M>
-        ensures { means result.value ≡ measure.none }
+        ensures { M.means result.value ≡ M.measure.none }
     {
         Row {
             level: 0,

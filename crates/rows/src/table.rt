@@ -21,7 +21,7 @@ pub(crate) fn place<M: Metric>(rows: &mut [Row<M>], count: usize, up: usize, fun
     requires below { up < count }
     requires shallow { (slice_index_or (shapes rows.old) up blank).depth < 512 }
     requires indexed { Indexed (shapes rows.old) (heads rows.old) (links rows.old) count }
-    ensures reached { Reached measure.none (shapes rows.old) (shapes rows.new) (values means rows.old) (values means rows.new) count up function result }
+    ensures reached { Reached M.measure.none (shapes rows.old) (shapes rows.new) (values M.means rows.old) (values M.means rows.new) count up function result }
     ensures noted { marks rows.new ≡ marks rows.old }
     ensures indexed { Indexed (shapes rows.new) (heads rows.new) (links rows.new) (max count (result + 1)) }
 {
@@ -45,7 +45,7 @@ pub(crate) fn reach<M: Metric>(
     requires few { length rows.old ≤ 65535 }
     requires below { up < count }
     requires indexed { Indexed (shapes rows.old) (heads rows.old) (links rows.old) count }
-    ensures reached { Reach measure.none (shapes rows.old) (shapes rows.new) (values means rows.old) (values means rows.new) count up function result }
+    ensures reached { Reach M.measure.none (shapes rows.old) (shapes rows.new) (values M.means rows.old) (values M.means rows.new) count up function result }
     ensures indexed { Reindexed (shapes rows.new) (heads rows.new) (links rows.new) count result }
 {
     if look(rows, up).depth >= MOST_DEPTH {
@@ -73,7 +73,7 @@ pub fn enter<M: Metric>(
     requires few { length rows.old ≤ 65535 }
     requires below { up < count }
     requires indexed { Indexed (shapes rows.old) (heads rows.old) (links rows.old) count }
-    ensures entered { Enter measure.none measure.join measure.of_call (shapes rows.old) (shapes rows.new) (values means rows.old) (values means rows.new) count up function result }
+    ensures entered { Enter M.measure.none M.measure.join M.measure.of_call (shapes rows.old) (shapes rows.new) (values M.means rows.old) (values M.means rows.new) count up function result }
     ensures indexed { Reindexed (shapes rows.new) (heads rows.new) (links rows.new) count result }
 {
     match reach(rows, count, up, function) {

@@ -30,7 +30,7 @@ impl<'a, M: Metric> Summary<'a, M> {
     pub fn new(rows: &'a mut [Row<M>]) -> Summary<'a, M>
         requires some { 0 < length rows.old }
         requires few { length rows.old ≤ 65535 }
-        ensures { view measure means result ≡ fresh measure (length rows.old) }
+        ensures { view M.measure M.means result ≡ fresh M.measure (length rows.old) }
     {
         clear(rows);
         push(rows, 0, 0, 0, 0, 0);
@@ -51,7 +51,7 @@ impl<'a, M: Metric> Summary<'a, M> {
 
     // Enters a function.
     pub fn call(&mut self, function: u16) -> Result<(), Rejection>
-        ensures { Given measure (view measure means self.old) (view measure means self.new) (Call function) result }
+        ensures { Given M.measure (view M.measure M.means self.old) (view M.measure M.means self.new) (Call function) result }
     {
         if function == 0 {
             return Err(Rejection::OutOfRange);
@@ -71,7 +71,7 @@ impl<'a, M: Metric> Summary<'a, M> {
 
     // Books a sample at the open path.
     pub fn sample(&mut self, sample: Sample) -> Result<(), Rejection>
-        ensures { Given measure (view measure means self.old) (view measure means self.new) (Sampled sample) result }
+        ensures { Given M.measure (view M.measure M.means self.old) (view M.measure M.means self.new) (Sampled sample) result }
     {
         if !sample.is_in_range() {
             return Err(Rejection::OutOfRange);
@@ -84,7 +84,7 @@ impl<'a, M: Metric> Summary<'a, M> {
 
     // Leaves the last function; where the path is empty, the level rises.
     pub fn return_(&mut self) -> Result<(), Rejection>
-        ensures { Given measure (view measure means self.old) (view measure means self.new) Return result }
+        ensures { Given M.measure (view M.measure M.means self.old) (view M.measure M.means self.new) Return result }
     {
         let seen = self.at_open();
         if seen.function != 0 {
@@ -106,7 +106,7 @@ impl<'a, M: Metric> Summary<'a, M> {
 
     // Leaves so many functions at once.
     pub fn unwind(&mut self, count: u16) -> Result<(), Rejection>
-        ensures { Given measure (view measure means self.old) (view measure means self.new) (Unwind count) result }
+        ensures { Given M.measure (view M.measure M.means self.old) (view M.measure M.means self.new) (Unwind count) result }
     {
         if count == 0 || count > 4095 {
             return Err(Rejection::OutOfRange);
@@ -124,7 +124,7 @@ impl<'a, M: Metric> Summary<'a, M> {
 
     // Adds one record, whichever it is.
     pub fn add(&mut self, record: Record) -> Result<(), Rejection>
-        ensures { Given measure (view measure means self.old) (view measure means self.new) «record» result }
+        ensures { Given M.measure (view M.measure M.means self.old) (view M.measure M.means self.new) «record» result }
     {
         match record {
             Record::Call { function } => self.call(function),

@@ -10,29 +10,29 @@ use rows::cell::{look, value_of};
 impl<'a, M: Metric> Summary<'a, M> {
     // The level where the records end.
     pub fn level(&self) -> usize
-        ensures { result ≡ (view measure means self.now).is.end.level }
+        ensures { result ≡ (view M.measure M.means self.now).is.end.level }
     {
         self.level
     }
 
     // The row of the open path.
     pub fn open_row(&self) -> usize
-        ensures { AnswersOpen measure means self.now result }
+        ensures { AnswersOpen M.measure M.means self.now result }
     {
         self.current
     }
 
     // How many rows there are: each of the summary's contexts has one, and no two have the same.
     pub fn row_count(&self) -> usize
-        ensures is { result ≡ (view measure means self.now).count }
-        ensures complete { Complete (view measure means self.now) }
+        ensures is { result ≡ (view M.measure M.means self.now).count }
+        ensures complete { Complete (view M.measure M.means self.now) }
     {
         self.count
     }
 
     // The row of that number, none beyond the rows.
     pub fn row(&self, number: usize) -> Option<SummaryRow<M>>
-        ensures { AnswersRow measure means self.now number result }
+        ensures { AnswersRow M.measure M.means self.now number result }
     {
         if number >= self.row_count() {
             return None;

@@ -13,7 +13,7 @@ use rows::flatten::flatten;
 impl<'a, M: Metric> Summary<'a, M> {
     // Uses the summary up and makes its tree, in the same rows: all levels become one.
     pub fn finish(self) -> Tree<'a, M>
-        ensures { tree_view measure means result ≡ finished measure (view measure means self.entry).is }
+        ensures { tree_view M.measure M.means result ≡ finished M.measure (view M.measure M.means self.entry).is }
     {
         let Summary {
             rows,

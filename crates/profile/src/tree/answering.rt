@@ -9,14 +9,14 @@ use rows::cell::{look, value_of};
 impl<'a, M: Metric> Tree<'a, M> {
     // How many returns of the records found no function to leave.
     pub fn strays(&self) -> usize
-        ensures { result ≡ (tree_view measure means self.now).strays }
+        ensures { result ≡ (tree_view M.measure M.means self.now).strays }
     {
         self.strays
     }
 
     // How many functions were open at the end.
     pub fn open(&self) -> usize
-        ensures { result ≡ (tree_view measure means self.now).opened }
+        ensures { result ≡ (tree_view M.measure M.means self.now).opened }
     {
         look(self.rows, self.current).depth
     }
@@ -24,14 +24,14 @@ impl<'a, M: Metric> Tree<'a, M> {
     // How many rows there are: each of the tree's paths has one, and no two have the same.
     pub fn row_count(&self) -> usize
         ensures is { result ≡ self.now.count }
-        ensures whole { Whole measure means self.now }
+        ensures whole { Whole M.measure M.means self.now }
     {
         self.count
     }
 
     // The row of that number, none beyond the rows.
     pub fn row(&self, number: usize) -> Option<TreeRow<M>>
-        ensures { AnswersRow measure means self.now number result }
+        ensures { AnswersRow M.measure M.means self.now number result }
     {
         if number >= self.row_count() {
             return None;

@@ -23,7 +23,7 @@ impl<'a, M: Metric> Tree<'a, M> {
 
     // Fills the column with each row's join over the rows whose path begins with its own.
     pub fn inclusive(&self, column: &mut [M]) -> Result<(), ShortColumn>
-        ensures { Inclusion measure means self.now (meanings means column.old) (meanings means column.new) result }
+        ensures { Inclusion M.measure M.means self.now (meanings M.means column.old) (meanings M.means column.new) result }
     {
         if column.len() < self.count {
             return Err(ShortColumn {
