@@ -24,8 +24,8 @@ child_prop s k p q =
 good_prop : (s : List Shape) (k : ℕ) → IsProp (Good s k)
 good_prop s k p q =
     let b : IsProp ((get_or s k blank).depth ≤ 512) = hlevel props in
-    let d : IsProp ((get_or s k blank).function ≡ 0 → Root s k) = search (props, root_prop s k) in
-    let e : IsProp (0 < (get_or s k blank).function → Child s k) = search (props, child_prop s k) in
+    let d : IsProp ((get_or s k blank).function ≡ 0 → Root s k) = hlevel (props, root_prop s k) in
+    let e : IsProp (0 < (get_or s k blank).function → Child s k) = hlevel (props, child_prop s k) in
     λ i. record { depth = b p.depth q.depth i; root = d p.root q.root i; child = e p.child q.child i }
 
 nat_set : (j k : ℕ) → IsProp (j ≡ k)
@@ -35,7 +35,7 @@ pub table_prop : (s : List Shape) (count top : ℕ) → IsProp (Table s count to
 table_prop s count top p q =
     let a : IsProp (count ≤ length s) = hlevel props in
     let c : IsProp (roots s count ≡ top + 1) = hlevel props in
-    let d : IsProp ((k : ℕ) → k < count → Good s k) = search (props, good_prop s) in
+    let d : IsProp ((k : ℕ) → k < count → Good s k) = hlevel (props, good_prop s) in
     let e : IsProp ((j k : ℕ) → j < count → k < count → 0 < (get_or s j blank).function → (get_or s j blank).function ≡ (get_or s k blank).function → (get_or s j blank).parent ≡ (get_or s k blank).parent → j ≡ k) = (λ x y i j k a b c d e. nat_set j k (x j k a b c d e) (y j k a b c d e) i) in
     λ i. record { fits = a p.fits q.fits i; good = d p.good q.good i; apart = e p.apart q.apart i; levels = c p.levels q.levels i }
 

@@ -14,7 +14,7 @@ loop-k-preserved g c =
     let h : k < length col = rw length-map (omega arith) in
     let w = get_or v k none in
     let i = c.loop-k.invariant in
-    subst (λ u. Copied none v (meanings m.means c.args.column.now) u (k + 1)) (sym c.copy-value.ensures)
+    subst (λ u. Copied none v (meanings m.means c.args.column.now) u (k + 1)) (sym c.copy_value.ensures)
     (record {
       copied = below_more _ _ (λ j l. let ne : j ≢ k = omega arith in get_or-set_other col k j w none ne ∙ i.copied j l) (get_or-set_same col k w none h);
       rest = λ j l. let ne : j ≢ k = omega arith in get_or-set_other col k j w none ne ∙ i.rest j (omega arith);

@@ -11,12 +11,12 @@ pub loop-i-init : goal.loop-i-init
 loop-i-init g c =
     let m = g.M.Metric in
     let rows = c.args.rows.now in
-    let col = meanings m.means c.copy-all.new.column in
+    let col = meanings m.means c.copy_all.new.column in
     let l : c.args.n ≤ length col = rw length-map (omega arith) in
-    (fill_start (shapes rows) c.args.n c.requires.table g.met.M.Metric.lawful (values m.means rows) col l c.copy-all.ensures.copied, (λ k h. refl), some _ _ _ c.requires.table, omega arith)
+    (fill_start (shapes rows) c.args.n c.requires.table g.met.M.Metric.lawful (values m.means rows) col l c.copy_all.ensures.copied, (λ k h. refl), some _ _ _ c.requires.table, omega arith)
 
-pub hand-up-requires : goal.hand-up-requires
-hand-up-requires g c =
+pub hand_up-requires : goal.hand_up-requires
+hand_up-requires g c =
     let s = shapes c.args.rows.now in
     let i = c.loop-i.invariant in
     let low = parent_low s c.args.n c.requires.table (c.loop-i.i - 1) (omega (arith, i.3)) in
@@ -32,12 +32,12 @@ loop-i-preserved g c =
     let n = c.args.n in
     let r = c.loop-i.i - 1 in
     let col = meanings m.means c.loop-i.column in
-    let col' = meanings m.means c.hand-up.new.column in
+    let col' = meanings m.means c.hand_up.new.column in
     let i = c.loop-i.invariant in
     let e : c.loop-i.i ≡ suc r = omega arith in
     let p = (get_or s r blank).parent in
     let ep : c.look-p.result.parent ≡ p = c.look-p.ensures.saw.parent in
-    let ec : col' ≡ handed m.measure col p r = c.hand-up.ensures ∙ ap (λ k. handed m.measure col k r) ep in
+    let ec : col' ≡ handed m.measure col p r = c.hand_up.ensures ∙ ap (λ k. handed m.measure col k r) ep in
     let low = parent_low s n c.requires.table r (omega (arith, i.3)) in (
       fill_step s n c.requires.table g.met.M.Metric.lawful v col col' r (omega arith) (omega (arith, i.3)) (subst (λ k. Filling m.measure s v col n k) e i.0) ec,
       (λ k h. let ne : k ≢ p = omega (arith, low, i.3) in ap (λ u. get_or u k none) ec ∙ get_or-set_other col p k (m.measure.join (get_or col p none) (get_or col r none)) none ne ∙ i.1 k h),
@@ -57,5 +57,5 @@ returns g c =
     let e : c.loop-i.i ≡ 1 = omega (arith, i.2) in
     record {
       filled = fill_end s n c.requires.table g.met.M.Metric.lawful v col (subst (λ k. Filling m.measure s v col n k) e i.0);
-      rest = λ k h. i.1 k h ∙ c.copy-all.ensures.rest k h;
+      rest = λ k h. i.1 k h ∙ c.copy_all.ensures.rest k h;
     }

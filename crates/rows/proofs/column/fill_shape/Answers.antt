@@ -17,7 +17,7 @@ loop-k-preserved g c =
     let x : ShapeRow = record { function = (get_or s k blank).function; parent = (get_or s k blank).parent } in
     let h : k < length col = omega (arith, i.long) in
     let here : get_or (set col k x) k no_row ≡ x = get_or-set_same col k x no_row h in
-    subst (λ u. Shaped s c.args.column.now u (k + 1)) (sym c.copy-shape.ensures)
+    subst (λ u. Shaped s c.args.column.now u (k + 1)) (sym c.copy_shape.ensures)
     (record {
       function = below_more _ _ (λ j l. let ne : j ≢ k = omega arith in ap (λ (r : ShapeRow). r.function) (get_or-set_other col k j x no_row ne) ∙ i.function j l) (ap (λ (r : ShapeRow). r.function) here);
       parent = below_more _ _ (λ j l. let ne : j ≢ k = omega arith in ap (λ (r : ShapeRow). r.parent) (get_or-set_other col k j x no_row ne) ∙ i.parent j l) (ap (λ (r : ShapeRow). r.parent) here);

@@ -29,8 +29,8 @@ loop-i-init g c =
       indexed_moved _ _ _ _ _ _ _ c.note.ensures.same c.note.ensures.index c.link.ensures.indexed,
     )
 
-pub flatten-row-to-requires : goal.flatten-row-to-requires
-flatten-row-to-requires g c =
+pub flatten_row-to-requires : goal.flatten_row-to-requires
+flatten_row-to-requires g c =
     let m = g.M.Metric in
     let rows = c.note.new.rows in
     let es : shapes rows ≡ shapes c.args.rows.now = c.note.ensures.same ∙ c.link.ensures.same ∙ c.clear.ensures.same in
@@ -47,14 +47,14 @@ loop-i-preserved g c =
     let m = g.M.Metric in
     let rows = c.note.new.rows in
     let now = c.loop-i.rows in
-    let after = c.flatten-row-to.new.rows in
+    let after = c.flatten_row-to.new.rows in
     let es : shapes rows ≡ shapes c.args.rows.now = c.note.ensures.same ∙ c.link.ensures.same ∙ c.clear.ensures.same in
     let t = subst (λ u. Table u c.args.n c.args.top) (sym es) c.requires.table in
     let im : c.loop-i.i < length (marks now) = omega (arith, long_marks now) in
     let iv : c.loop-i.i < length (values m.means now) = omega (arith, long_values m.means now, long now) in
-    let w = flat_step g.met.M.Metric.lawful (shapes rows) (values m.means rows) c.args.n c.args.top t (shapes now) (values m.means now) (marks now) c.loop-i.c c.loop-i.i (omega arith) c.loop-i.invariant.0 (shapes after) (values m.means after) (marks after) c.flatten-row-to.result im iv c.flatten-row-to.ensures.seated in (
+    let w = flat_step g.met.M.Metric.lawful (shapes rows) (values m.means rows) c.args.n c.args.top t (shapes now) (values m.means now) (marks now) c.loop-i.c c.loop-i.i (omega arith) c.loop-i.invariant.0 (shapes after) (values m.means after) (marks after) c.flatten_row-to.result im iv c.flatten_row-to.ensures.seated in (
       subst (λ k. Flattening m.measure (shapes rows) (shapes after) (values m.means rows) (values m.means after) (marks after) k (c.loop-i.i + 1)) (sym c.max-c.ensures) w,
-      subst (λ k. Indexed (shapes after) (heads after) (links after) k) (sym c.max-c.ensures) c.flatten-row-to.ensures.indexed,
+      subst (λ k. Indexed (shapes after) (heads after) (links after) k) (sym c.max-c.ensures) c.flatten_row-to.ensures.indexed,
     )
 
 pub returns : goal.returns

@@ -10,17 +10,17 @@ pub loop-after-init : goal.loop-after-init
 loop-after-init g c =
     let rows = c.args.rows.now in
     let s = shapes rows in
-    let e : c.slot-of.result ≡ slot (length s) c.args.up c.args.function = c.slot-of.ensures.is ∙ ap (λ n. slot n c.args.up c.args.function) (sym (long rows)) in
-    chase_start s (heads rows) (links rows) c.args.count c.args.up c.args.function c.requires.indexed (omega (arith, e, long rows, c.slot-of.ensures.within)) c.head-of-after.result (rw e at c.head-of-after.ensures)
+    let e : c.slot_of.result ≡ slot (length s) c.args.up c.args.function = c.slot_of.ensures.is ∙ ap (λ n. slot n c.args.up c.args.function) (sym (long rows)) in
+    chase_start s (heads rows) (links rows) c.args.count c.args.up c.args.function c.requires.indexed (omega (arith, e, long rows, c.slot_of.ensures.within)) c.head_of-after.result (rw e at c.head_of-after.ensures)
 
 pub loop-after-smaller : goal.loop-after-smaller
 loop-after-smaller g c =
     let rows = c.args.rows.now in
-    chase_falls (shapes rows) (heads rows) (links rows) c.args.count c.args.up c.args.function c.requires.indexed c.loop-after.after (c.loop-after.after - 1) c.next-of-after.result (omega arith) c.loop-after.invariant c.next-of-after.ensures
+    chase_falls (shapes rows) (heads rows) (links rows) c.args.count c.args.up c.args.function c.requires.indexed c.loop-after.after (c.loop-after.after - 1) c.next_of-after.result (omega arith) c.loop-after.invariant c.next_of-after.ensures
 
 pub loop-after-preserved : goal.loop-after-preserved
 loop-after-preserved g c =
     let rows = c.args.rows.now in
-    chase_more (shapes rows) (heads rows) (links rows) c.args.count c.args.up c.args.function c.requires.indexed c.loop-after.after (c.loop-after.after - 1) c.next-of-after.result (omega arith) c.loop-after.invariant
+    chase_more (shapes rows) (heads rows) (links rows) c.args.count c.args.up c.args.function c.requires.indexed c.loop-after.after (c.loop-after.after - 1) c.next_of-after.result (omega arith) c.loop-after.invariant
     (λ p q. ⊎_elim (λ w. w.1 (c.look-seen.ensures.saw.function ∙ q)) (λ w. w (c.look-seen.ensures.saw.parent ∙ p)) c.else-seen-up.either)
-    c.next-of-after.ensures
+    c.next_of-after.ensures

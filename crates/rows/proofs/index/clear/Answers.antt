@@ -8,7 +8,7 @@ use Rattle.rows.proofs.index.clear.Goals as goal
 pub loop-i-preserved : goal.loop-i-preserved
 loop-i-preserved g c =
     let v = c.loop-i.invariant in
-    let a = c.set-head.ensures in
+    let a = c.set_head.ensures in
     let rows = c.loop-i.rows in
     let i = c.loop-i.i in
     let room : i < length (heads rows) = omega (arith, long_heads rows) in (

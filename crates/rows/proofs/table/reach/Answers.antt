@@ -3,8 +3,8 @@ use Rattle.std.proofs.lemmas.Bool.{cond_below}
 use Rattle.rows.proofs.Views.{long}
 use Rattle.rows.proofs.table.reach.Goals as goal
 
-pub returns-then-look-ge-MOST-DEPTH : goal.returns-then-look-ge-MOST-DEPTH
-returns-then-look-ge-MOST-DEPTH g c = record { reached = (refl, refl, omega (arith, c.look.ensures.saw.depth)); indexed = c.requires.indexed }
+pub returns-then-look-ge-MOST_DEPTH : goal.returns-then-look-ge-MOST_DEPTH
+returns-then-look-ge-MOST_DEPTH g c = record { reached = (refl, refl, omega (arith, c.look.ensures.saw.depth)); indexed = c.requires.indexed }
 
 pub returns-then-count-rows : goal.returns-then-count-rows
 returns-then-count-rows g c = record { reached = c.place.ensures.reached; indexed = c.place.ensures.indexed }
