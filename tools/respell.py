@@ -3,7 +3,7 @@
 
 usage: tools/respell.py [--list]      at the top of the repository, once, right after the kit's own port script
 
-A name is a definition's, a lemma's, a field's or a constructor's in specs/ or proofs/ that has a dash: `from-to` becomes
+A name is a definition's, a lemma's, a field's, a constructor's or a local one in specs/ or proofs/ that has a dash: `from-to` becomes
 `from_to`, and a type's, as `Answers-row`, `AnswersRow`. Names that the checker makes (goals, steps, invariants) keep theirs,
 and so does everything that is Rust's. Comments are left alone. With --list it writes the names and nothing else.
 """
@@ -14,7 +14,8 @@ import sys
 
 NAME = r"[^\s:(){}\[\],;.«»@]+"
 DEFINITION = re.compile(r"^(?:abbrev |unfoldable )*(?:pub )?(?:(record|data) (?=.* : )|(?=\S+ : ))(" + NAME + r")(?=\s)")
-FIELD = re.compile(r"^  (?:pub )?(" + NAME + r") : ")
+FIELD = re.compile(r"^ +(?:pub )?(" + NAME + r") : ")
+LOCAL = re.compile(r"(?:\blet |[({]|\bas )([a-z][\w']*(?:-[\w']+)+)(?= [:=]|[,}])")
 WORDS = ("use ", "--", "unfolding ", "let ", "mod ", "pub mod ", "infix", "pub use ")
 # what a token is made of; a dot stands between the parts of a path or a projection
 PART = r"[\w'′₀-₉-]"
@@ -55,13 +56,16 @@ def own_names():
             for k, line in enumerate(lines):
                 field = FIELD.match(line)
                 found = None if line.startswith(WORDS) else DEFINITION.match(line)
-                if field and os.path.dirname(path).endswith(("/specs", "/proofs")):
+                if field:
                     name, is_type = field[1], False
                     fields.add(name)
                 elif found and not made_by_the_checker(path, found[2], text):
                     name = found[2]
                     is_type = bool(found[1]) or re.search(r"Type \d$", line) is not None
                 else:
+                    for m in LOCAL.finditer(line.partition("--")[0]):
+                        if not line.startswith("use ") or m[0].startswith("as "):
+                            new.setdefault(m[1], spelled(m[1], False))
                     continue
                 if not re.fullmatch(r"[\w'′₀-₉-]+", name) or not ("-" in name or "′" in name):
                     continue

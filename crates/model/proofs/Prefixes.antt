@@ -59,7 +59,7 @@ pub prefixes_stand : {M : Type 0} (m : Measure M) → Prefixes m
 prefixes_stand m xs = record {
   shorter = λ l f q h.
       ⊎_elim
-      (λ r. absurd (both_ways false refl (rooted-cons l f q r)))
+      (λ r. absurd (both_ways false refl (rooted_cons l f q r)))
       (λ c. ⊎_elim
       (λ none. or_left _ _ (rooted_from _ (at l q) none (call_level _ (at l (f ∷ q)) (bookings calling start xs) (bookings_below calling start xs) c)))
       (⊎_elim
@@ -73,5 +73,5 @@ prefixes_stand m xs = record {
       (open_row xs 0 (ends start xs) refl);
 }
   where
-    rooted-cons : (l f : ℕ) (q : Path) → rooted (ends start xs).level (at l (f ∷ q)) ≡ true → false ≡ true
-    rooted-cons l f q r = r
+    rooted_cons : (l f : ℕ) (q : Path) → rooted (ends start xs).level (at l (f ∷ q)) ≡ true → false ≡ true
+    rooted_cons l f q r = r

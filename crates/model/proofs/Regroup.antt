@@ -19,7 +19,7 @@ abbrev keys : {K M : Type 0} → List (K × M) → List K
 keys [] = []
 keys (r ∷ rows) = r.0 ∷ keys rows
 
-module _ {K M : Type 0} {m : Measure M} (laws : Laws m) (eq : K → K → Bool) (eq_refl : (k : K) → eq k k ≡ true) (eq-true : (k l : K) → eq k l ≡ true → k ≡ l) where
+module _ {K M : Type 0} {m : Measure M} (laws : Laws m) (eq : K → K → Bool) (eq_refl : (k : K) → eq k k ≡ true) (eq_true : (k l : K) → eq k l ≡ true → k ≡ l) where
   -- v over the keys that pass, each once
   by_keys : List K → (K → Bool) → (K → M) → M
   by_keys [] test v = m.none
@@ -53,7 +53,7 @@ module _ {K M : Type 0} {m : Measure M} (laws : Laws m) (eq : K → K → Bool) 
   at_key test k (r ∷ rows) =
       joins_cons laws (λ x. test x && eq k x) r rows
       ∙ ap (m.join _) (at_key test k rows)
-      ∙ go (test r.0) (test k) (eq k r.0) (λ h. ap test (sym (eq-true k r.0 h)))
+      ∙ go (test r.0) (test k) (eq k r.0) (λ h. ap test (sym (eq_true k r.0 h)))
       ∙ ap (λ w. cond (test k) w m.none) (sym (joins_cons laws (eq k) r rows))
     where
       go : (b c d : Bool) → (d ≡ true → b ≡ c) → m.join (cond (b && d) r.1 m.none) (cond c (joins m (eq k) rows) m.none) ≡ cond c (m.join (cond d r.1 m.none) (joins m (eq k) rows)) m.none

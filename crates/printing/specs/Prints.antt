@@ -2,12 +2,12 @@
 use Rattle.std.specs.Prelude.{◌≡◌, ℕ, Bool, cond, List, length, Some, None, string_bytes, MatchBool, Option, ◌==◌, nat_lt}
 use Rattle.trace.specs.declared.record.Record.{Record}
 use Rattle.trace.specs.declared.fault.Ending.{Ending}
-use Rattle.trace.specs.Faults.{number as cause-number}
+use Rattle.trace.specs.Faults.{number as cause_number}
 use Rattle.trace.specs.Text.{text_records, text_ending}
 use Rattle.metrics.specs.Measures.{Measure}
 use Rattle.metrics.specs.Sums.{Capped, calls, work}
 use Rattle.metrics.specs.Pairs.{pair}
-use Rattle.rows.specs.Numbers.{number as rejection-number}
+use Rattle.rows.specs.Numbers.{number as rejection_number}
 use Rattle.profile.specs.declared.reading.Stop.{Stop}
 use Rattle.profile.specs.declared.reading.Stop.TheVariants.{Limit, End, Faulted, Rejected}
 use Rattle.profile.specs.Given.{Held}
@@ -36,8 +36,8 @@ stop_line cause place passed = record { cause = cause; place = place; passed = p
 abbrev pub stopping : ℕ → Stop → Option StopLine
 stopping count Limit = None
 stopping count End = None
-stopping count (Faulted f) = Some (stop_line (cause-number f.cause) f.place f.passed)
-stopping count (Rejected r) = Some (stop_line (rejection-number r) count 0)
+stopping count (Faulted f) = Some (stop_line (cause_number f.cause) f.place f.passed)
+stopping count (Rejected r) = Some (stop_line (rejection_number r) count 0)
 
 -- a trace may have 65,536 bytes
 abbrev pub too_long : List ℕ → Bool

@@ -77,9 +77,9 @@ module _ {M : Type 0} (m : Measure M) where
   stops_alike a limit n rest left left' e s t (refused r x below h j is) (ended below' h' is' z') = absurd (nil_cons r left (sym h' ∙ h))
   stops_alike a limit n rest left left' e s t (refused r x below h j is) (refused r' x' below' h' j' is') =
       let both : r ∷ left ≡ r' ∷ left' = sym h ∙ h' in
-      let same-r : r ≡ r' = ap (λ l. get_or l 0 r) both in
-      let same-x : x ≡ x' = one_reason a r x x' j (subst (λ (q : Record). Refuses a q x') (sym same-r) j') in
-      (is ∙ ap Rejected same-x ∙ sym is', ap (drop 1) both)
+      let same_r : r ≡ r' = ap (λ l. get_or l 0 r) both in
+      let same_x : x ≡ x' = one_reason a r x x' j (subst (λ (q : Record). Refuses a q x') (sym same_r) j') in
+      (is ∙ ap Rejected same_x ∙ sym is', ap (drop 1) both)
 
   pub reads_fixed : ReadsFixed m
   reads_fixed a b c records left left' e f f' limit n k s t p q =

@@ -24,10 +24,10 @@ pub ranged_from : (low high n : ℕ) → low ≤ n → n ≤ high → from_to lo
 ranged_from low high n a b = and_from _ _ (le-leb low n a) (le-leb n high b)
 
 pub ranged_not : (low high n : ℕ) → n < low → from_to low high n ≡ true → ⊥
-ranged_not low high n a e = let z : ◌≡◌ {A = Bool} true false = sym e ∙ ap (λ b. b && leb n high) (lt-leb low n a) in absurd-bool z
+ranged_not low high n a e = let z : ◌≡◌ {A = Bool} true false = sym e ∙ ap (λ b. b && leb n high) (lt-leb low n a) in absurd_bool z
   where
-    absurd-bool : true ≡ false → ⊥
-    absurd-bool z = let o : ◌≡◌ {A = ℕ} 0 1 = cc in omega arith
+    absurd_bool : true ≡ false → ⊥
+    absurd_bool z = let o : ◌≡◌ {A = ℕ} 0 1 = cc in omega arith
 
 pub ranged_above : (low high n : ℕ) → high < n → from_to low high n ≡ true → ⊥
 ranged_above low high n a e = let z : n ≤ high = leb-true n high (and_parts (leb low n) (leb n high) e).1 in omega arith
@@ -59,8 +59,8 @@ module _ {M : Type 0} {m : Measure M} (laws : Laws m) (s : List Shape) (v : List
 
   -- ---- a call
   module _ (f : ℕ) (named : 0 < f) where
-    found-there : (c : ℕ) → Found s n cur f c → c < n → any_of (same (at (context s cur).level (f ∷ (context s cur).path))) (listed m.none s v n) ≡ true
-    found-there c found l =
+    found_there : (c : ℕ) → Found s n cur f c → c < n → any_of (same (at (context s cur).level (f ∷ (context s cur).path))) (listed m.none s v n) ≡ true
+    found_there c found l =
         let pa = found.is_parent l in
         let fn = found.is_function l in
         let is : context s c ≡ at (context s cur).level (f ∷ (context s cur).path) = context_child s n top o.table c l (omega (arith, fn)) ∙ ap₂ (λ p g. at (context s p).level (g ∷ (context s p).path)) pa fn in
@@ -70,40 +70,40 @@ module _ {M : Type 0} {m : Measure M} (laws : Laws m) (s : List Shape) (v : List
       gains : Gains m s s' v (grownValues m.none v n c) n n' top top c (at (context s cur).level (f ∷ (context s cur).path))
       gains = rw em (gains_reached laws s v n top o.table s' (grownValues m.none v n c) cur f c o.opened named lv (record { found = e.found; shallow = e.shallow; room = e.room; shapes = e.shapes; values = refl }))
 
-      pub call-sound : Sound s' n' top c
-      call-sound = record { table = gains.table; opened = gains.inside; here = ap (λ (x : Position). x.level) gains.is ∙ o.here }
+      pub call_sound : Sound s' n' top c
+      call_sound = record { table = gains.table; opened = gains.inside; here = ap (λ (x : Position). x.level) gains.is ∙ o.here }
 
-      long-grown : length (grownValues m.none v n c) ≡ length v
-      long-grown = ⊎_elim
+      long_grown : length (grownValues m.none v n c) ≡ length v
+      long_grown = ⊎_elim
           (λ (l : c < n). ap length (cond-true _ _ _ (lt-ltb c n l)))
           (λ (l : n ≤ c). ap length (cond-false _ _ _ (le-ltb c n l)) ∙ length-set v n m.none)
           (cases_lt c n)
 
-      call-need : (n' ≡ n + need (reading m s v n cur) (Call f)) × (n + need (reading m s v n cur) (Call f) ≤ length s)
-      call-need = ⊎_elim
+      call_need : (n' ≡ n + need (reading m s v n cur) (Call f)) × (n + need (reading m s v n cur) (Call f) ≤ length s)
+      call_need = ⊎_elim
           (λ (l : c < n).
-          let z : need (reading m s v n cur) (Call f) ≡ 0 = cond-true _ _ _ (found-there c e.found l) in
+          let z : need (reading m s v n cur) (Call f) ≡ 0 = cond-true _ _ _ (found_there c e.found l) in
           (omega arith, omega (arith, o.table.fits)))
           (λ (l : n ≤ c).
           let z : need (reading m s v n cur) (Call f) ≡ 1 = cond-false _ _ _ (none_there laws s v n top o.table cur f o.opened (e.found.absent l)) in
           (omega (arith, e.found.within), omega (arith, e.found.within, e.room)))
           (cases_lt c n)
 
-      pub call-taken : (room room' : ℕ) → f ≤ 65535 → room ≡ length s → room' ≡ room → Taken m (held m s v n cur room) (held m s' v' n' c room') (Call f)
-      call-taken room room' ranged er er' = record {
+      pub call_taken : (room room' : ℕ) → f ≤ 65535 → room ≡ length s → room' ≡ room → Taken m (held m s v n cur room) (held m s' v' n' c room') (Call f)
+      call_taken room room' ranged er er' = record {
         ranged = ranged_from 1 65535 f (omega arith) ranged;
         shallow = omega (arith, path_long, e.shallow);
-        fits = omega (arith, call-need.1);
-        is = called laws s v n top cur o s' (grownValues m.none v n c) v' n' f c gains (omega (arith, long-grown, e.room)) e.values;
-        count = call-need.0;
+        fits = omega (arith, call_need.1);
+        is = called laws s v n top cur o s' (grownValues m.none v n c) v' n' f c gains (omega (arith, long_grown, e.room)) e.values;
+        count = call_need.0;
         room = er';
       }
 
-    pub call-refused : (room : ℕ) (w : Rejection) → f ≤ 65535 → room ≡ length s → Refused s n cur f w → Refuses (held m s v n cur room) (Call f) w
-    call-refused room OutOfRange h er r = absurd r
-    call-refused room TableSize h er r = absurd r
-    call-refused room PathTooLong h er r = (ranged_from 1 65535 f (omega arith) h, omega (arith, path_long, r))
-    call-refused room TooFewRows h er r =
+    pub call_refused : (room : ℕ) (w : Rejection) → f ≤ 65535 → room ≡ length s → Refused s n cur f w → Refuses (held m s v n cur room) (Call f) w
+    call_refused room OutOfRange h er r = absurd r
+    call_refused room TableSize h er r = absurd r
+    call_refused room PathTooLong h er r = (ranged_from 1 65535 f (omega arith) h, omega (arith, path_long, r))
+    call_refused room TooFewRows h er r =
         let z : need (reading m s v n cur) (Call f) ≡ 1 = cond-false _ _ _ (none_there laws s v n top o.table cur f o.opened r.2) in
         (ranged_from 1 65535 f (omega arith) h, omega (arith, path_long, r.0), omega (arith, r.1))
 
@@ -128,16 +128,16 @@ module _ {M : Type 0} {m : Measure M} (laws : Laws m) (s : List Shape) (v : List
       }
 
   module _ (z : (get_or s cur blank).function ≡ 0) where
-    root-long : length (context s cur).path ≡ 0
-    root-long = path_long ∙ ((o.table.good cur o.opened).root z).depth
+    root_long : length (context s cur).path ≡ 0
+    root_long = path_long ∙ ((o.table.good cur o.opened).root z).depth
 
-    pub root-sound : n < length s → (s' : List Shape) → s' ≡ set s n (root (top + 1) n) → Sound s' (n + 1) (top + 1) n
-    root-sound room s' e =
+    pub root_sound : n < length s → (s' : List Shape) → s' ≡ set s n (root (top + 1) n) → Sound s' (n + 1) (top + 1) n
+    root_sound room s' e =
         let g = gains_root laws s v n top o.table lv room in
         rw e (record { table = g.table; opened = g.inside; here = ap (λ (x : Position). x.level) g.is })
 
-    pub root-taken : (room room' : ℕ) → room ≡ length s → room' ≡ room → n < length s → (s' : List Shape) (v' : List M) → s' ≡ set s n (root (top + 1) n) → v' ≡ set v n m.none → Taken m (held m s v n cur room) (held m s' v' (n + 1) n room') Return
-    root-taken room room' er er' h s' v' es ev =
+    pub root_taken : (room room' : ℕ) → room ≡ length s → room' ≡ room → n < length s → (s' : List Shape) (v' : List M) → s' ≡ set s n (root (top + 1) n) → v' ≡ set v n m.none → Taken m (held m s v n cur room) (held m s' v' (n + 1) n room') Return
+    root_taken room room' er er' h s' v' es ev =
         let g = gains_root laws s v n top o.table lv h in
         let is : reading m s' v' (n + 1) n ≡ added m (reading m s v n cur) Return = rw (es, ev) (returned_root laws s v n top cur o (set s n (root (top + 1) n)) (set v n m.none) z g) in
         let p : (reading m (set s n (root (top + 1) n)) (set v n m.none) (n + 1) n).end ≡ at (top + 1) [] = g.is in
@@ -145,15 +145,15 @@ module _ {M : Type 0} {m : Measure M} (laws : Laws m) (s : List Shape) (v : List
         record {
           ranged = refl;
           shallow = omega (arith, ap (λ (x : Position). length x.path) p, ap (λ (a : Summary M). length a.end.path) q);
-          fits = omega (arith, root-long);
+          fits = omega (arith, root_long);
           is = is;
-          count = omega (arith, root-long);
+          count = omega (arith, root_long);
           room = er';
         }
 
-    pub root-refused : (room : ℕ) → room ≡ length s → length s ≤ n → Refuses (held m s v n cur room) Return TooFewRows
-    root-refused room er h =
-        (refl, omega (arith, short (context s cur).path (context s cur).level root-long), omega (arith, root-long))
+    pub root_refused : (room : ℕ) → room ≡ length s → length s ≤ n → Refuses (held m s v n cur room) Return TooFewRows
+    root_refused room er h =
+        (refl, omega (arith, short (context s cur).path (context s cur).level root_long), omega (arith, root_long))
       where
         short : (q : Path) (l : ℕ) → length q ≡ 0 → length (returned l q).path ≡ 0
         short [] l e = refl

@@ -63,8 +63,8 @@ module _ {M : Type 0} (m : Measure M) where
 
   module _ (a b : Held M) (xs now : List Record) (e e' : Ending) (k : ℕ) (h : Reads m a b xs now e e' k k Limit) where
     -- one record more
-    pub under-way-more : (c : Held M) (r : Record) (j : ℕ) → j ≡ suc k → now ≡ r ∷ rest now → Accepts b r × (c ≡ step m b r) → Reads m a c xs (rest now) e e' j j Limit
-    under-way-more c r j up is g =
+    pub under_way_more : (c : Held M) (r : Record) (j : ℕ) → j ≡ suc k → now ≡ r ∷ rest now → Accepts b r × (c ≡ step m b r) → Reads m a c xs (rest now) e e' j j Limit
+    under_way_more c r j up is g =
         let over : now ≡ drop k xs = left_over h.stops in
         let next = take_next k xs r (rest now) (sym over ∙ is) in
         let long : suc (length (rest now)) ≡ length xs - k = sym (ap length is) ∙ ap length over ∙ length-drop k xs in
@@ -82,8 +82,8 @@ module _ {M : Type 0} (m : Measure M) where
         })
 
     -- the summary rejects
-    pub under-way-refused : (c : Held M) (r : Record) (x : Rejection) (limit : ℕ) → k < limit → now ≡ r ∷ rest now → (c ≡ b) × Refuses b r x → Reads m a c xs (rest now) e e' limit k (Rejected x)
-    under-way-refused c r x limit below is g =
+    pub under_way_refused : (c : Held M) (r : Record) (x : Rejection) (limit : ℕ) → k < limit → now ≡ r ∷ rest now → (c ≡ b) × Refuses b r x → Reads m a c xs (rest now) e e' limit k (Rejected x)
+    under_way_refused c r x limit below is g =
         let over : now ≡ drop k xs = left_over h.stops in
         record {
           enough = h.enough;

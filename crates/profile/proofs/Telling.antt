@@ -46,11 +46,11 @@ module _ (s : List Shape) (n : ℕ) (t : Table s n 0) where
   paths_apart j k hj hk e = contexts_apart s n 0 t j k hj hk (flat_row j hj ∙ ap (at 0) e ∙ sym (flat_row k hk))
 
   module _ {M : Type 0} (none : M) (v : List M) where
-    pub path-there : (k : ℕ) → k < n → any_of (same (at 0 (context s k).path)) (listed none s v n) ≡ true
-    path-there k h = subst (λ x. any_of (same x) (listed none s v n) ≡ true) (flat_row k h) (any_at none s v n k h)
+    pub path_there : (k : ℕ) → k < n → any_of (same (at 0 (context s k).path)) (listed none s v n) ≡ true
+    path_there k h = subst (λ x. any_of (same x) (listed none s v n) ≡ true) (flat_row k h) (any_at none s v n k h)
 
-    pub path-of : (q : Path) → any_of (same (at 0 q)) (listed none s v n) ≡ true → (k : ℕ) × (k < n) × ((context s k).path ≡ q)
-    path-of q e = let k = any_is none s v n (at 0 q) e in (k.0, k.1, sym (ap (λ (x : Position). x.path) k.2))
+    pub path_of : (q : Path) → any_of (same (at 0 q)) (listed none s v n) ≡ true → (k : ℕ) × (k < n) × ((context s k).path ≡ q)
+    path_of q e = let k = any_is none s v n (at 0 q) e in (k.0, k.1, sym (ap (λ (x : Position). x.path) k.2))
 
   pub path_value : {M : Type 0} {m : Measure M} → Laws m → (v : List M) (k : ℕ) → k < n → joins m (same (at 0 (context s k).path)) (listed m.none s v n) ≡ get_or v k m.none
   path_value {M} {m} laws v k h = subst (λ x. joins m (same x) (listed m.none s v n) ≡ get_or v k m.none) (flat_row k h) (joins_own laws s v n 0 t k n h (omega arith))

@@ -22,11 +22,11 @@ not_alike x y (inr h) a = omega (arith, h.1, a.1)
 
 strict : (x y : Entry) → Upto x y → (Alike x y → ⊥) → Before x y
 strict x y (inl h) n = inl h
-strict x y (inr h) n = by-function (cases_lt x.function y.function)
+strict x y (inr h) n = by_function (cases_lt x.function y.function)
   where
-    by-function : (x.function < y.function) ⊎ (y.function ≤ x.function) → Before x y
-    by-function (inl l) = inr (h.0, l)
-    by-function (inr l) = absurd (n (h.0, omega (arith, h.1)))
+    by_function : (x.function < y.function) ⊎ (y.function ≤ x.function) → Before x y
+    by_function (inl l) = inr (h.0, l)
+    by_function (inr l) = absurd (n (h.0, omega (arith, h.1)))
 
 neighbours : (s : List ShapeRow) (order : List Entry) → Arranged s order → (Twins order → ⊥) → (k : ℕ) → k + 1 < length order → Before (entry_at order k) (entry_at order (k + 1))
 neighbours s order a n k h = strict (entry_at order k) (entry_at order (k + 1)) (a.rises k h) (λ e. n (k, h, e))
@@ -53,14 +53,14 @@ places_apart s order a n j k lj lk d e = by_order (cases_order j k)
     by_order (inr (inr l)) = not_alike (entry_at order k) (entry_at order j) (far s order a n (j - k - 1) k j (omega arith) lj) (sym e.0, sym e.1)
 
 pub rows_apart : (s : List ShapeRow) (order : List Entry) → IsRooted s → Arranged s order → (Twins order → ⊥) → (i j : ℕ) → i < j → j < length s → parent_at s i ≡ parent_at s j → function_at s i ≡ function_at s j → ⊥
-rows_apart s order r a n i j l h p f = by-root (cases_eq i 0)
+rows_apart s order r a n i j l h p f = by_root (cases_eq i 0)
   where
-    by-root : (i ≡ 0) ⊎ (i ≡ 0 → ⊥) → ⊥
-    by-root (inl q) =
+    by_root : (i ≡ 0) ⊎ (i ≡ 0 → ⊥) → ⊥
+    by_root (inl q) =
         let z : function_at s i ≡ 0 = ap (function_at s) q ∙ r.root_function in
         let c : 0 < function_at s j = r.called j (omega arith) h in
         omega arith
-    by-root (inr q) =
+    by_root (inr q) =
         let hi = a.all i (omega arith) (omega arith) in
         let hj = a.all j (omega arith) h in
         let ei : entry_at order hi.0 ≡ entry_of s i = hi.2 no_entry in

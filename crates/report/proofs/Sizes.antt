@@ -32,11 +32,11 @@ under_above s t (suc m) r j h l =
 
 under_root : (s : List ShapeRow) → IsRooted s → (m r : ℕ) → under_by m s r 0 ≡ same 0 r
 under_root s t zero r = refl
-under_root s t (suc m) r = by-root (under_root s t m r) (cases_eq 0 r)
+under_root s t (suc m) r = by_root (under_root s t m r) (cases_eq 0 r)
   where
-    by-root : under_by m s r 0 ≡ same 0 r → (0 ≡ r) ⊎ (0 ≡ r → ⊥) → under_by (suc m) s r 0 ≡ same 0 r
-    by-root i (inl e) = cond-true (eqb 0 r) 1 (under_by m s r (parent_at s 0)) (eq-eqb 0 r e) ∙ sym (cond-true (eqb 0 r) 1 0 (eq-eqb 0 r e))
-    by-root i (inr n) = cond-false (eqb 0 r) 1 (under_by m s r (parent_at s 0)) (ne_eqb 0 r n) ∙ ap (under_by m s r) t.root_parent ∙ i
+    by_root : under_by m s r 0 ≡ same 0 r → (0 ≡ r) ⊎ (0 ≡ r → ⊥) → under_by (suc m) s r 0 ≡ same 0 r
+    by_root i (inl e) = cond-true (eqb 0 r) 1 (under_by m s r (parent_at s 0)) (eq-eqb 0 r e) ∙ sym (cond-true (eqb 0 r) 1 0 (eq-eqb 0 r e))
+    by_root i (inr n) = cond-false (eqb 0 r) 1 (under_by m s r (parent_at s 0)) (ne_eqb 0 r n) ∙ ap (under_by m s r) t.root_parent ∙ i
 
 under_free : (s : List ShapeRow) → IsRooted s → (m n r j : ℕ) → j ≤ m → j ≤ n → j < length s → under_by m s r j ≡ under_by n s r j
 under_free s t m n r zero h k l = under_root s t m r ∙ sym (under_root s t n r)
@@ -137,28 +137,28 @@ hits_child s t r j (e ∷ es) v o g h p =
 -- and where it is one, that counts
 hits_has : (s : List ShapeRow) (r j : ℕ) (es : List Entry) → Has (led_by s r es) j → 1 ≤ hits s r es j
 hits_has s r j [] h = absurd (omega (arith, h.1))
-hits_has s r j (e ∷ es) h = by-test (λ g. hits_has s r j es g) (cases_Bool (eqb (parent_at s e.row) r))
+hits_has s r j (e ∷ es) h = by_test (λ g. hits_has s r j es g) (cases_Bool (eqb (parent_at s e.row) r))
   where
     at_place : (Has (led_by s r es) j → 1 ≤ hits s r es j) → (k : ℕ) → k < length (e.row ∷ led_by s r es) → ((d : ℕ) → get_or (e.row ∷ led_by s r es) k d ≡ j) → 1 ≤ under s e.row j + hits s r es j
     at_place i zero l x = let u : under s e.row j ≡ 1 = subst (λ y. under_by j s y j ≡ 1) (sym (x 0)) (under_here s j j) in omega arith
     at_place i (suc k) l x = let g : 1 ≤ hits s r es j = i (k, omega arith, x) in omega arith
 
-    by-test : (Has (led_by s r es) j → 1 ≤ hits s r es j) → (eqb (parent_at s e.row) r ≡ true) ⊎ (eqb (parent_at s e.row) r ≡ false) → 1 ≤ hits s r (e ∷ es) j
-    by-test i (inl q) =
+    by_test : (Has (led_by s r es) j → 1 ≤ hits s r es j) → (eqb (parent_at s e.row) r ≡ true) ⊎ (eqb (parent_at s e.row) r ≡ false) → 1 ≤ hits s r (e ∷ es) j
+    by_test i (inl q) =
         let g : Has (e.row ∷ led_by s r es) j = subst (λ l. Has l j) (cond-true (eqb (parent_at s e.row) r) (e.row ∷ led_by s r es) [] q) h in
         subst (λ n. 1 ≤ n) (sym (cond-true (eqb (parent_at s e.row) r) (under s e.row j + hits s r es j) 0 q)) (at_place i g.0 g.1 g.2)
-    by-test i (inr q) =
+    by_test i (inr q) =
         let g : Has [] j = subst (λ l. Has l j) (cond-false (eqb (parent_at s e.row) r) (e.row ∷ led_by s r es) [] q) h in
         absurd (omega (arith, g.1))
 
 -- another row is below the children of r where its parent is
 hits_step : (s : List ShapeRow) → IsRooted s → (r j : ℕ) (es : List Entry) → 0 < j → j < length s → (parent_at s j ≡ r → ⊥) → hits s r es j ≡ hits s r es (parent_at s j)
 hits_step s t r j [] g h n = refl
-hits_step s t r j (e ∷ es) g h n = by-test (hits_step s t r j es g h n) (cases_Bool (eqb (parent_at s e.row) r))
+hits_step s t r j (e ∷ es) g h n = by_test (hits_step s t r j es g h n) (cases_Bool (eqb (parent_at s e.row) r))
   where
-    by-test : hits s r es j ≡ hits s r es (parent_at s j) → (eqb (parent_at s e.row) r ≡ true) ⊎ (eqb (parent_at s e.row) r ≡ false) → hits s r (e ∷ es) j ≡ hits s r (e ∷ es) (parent_at s j)
-    by-test i (inr q) = cond-false (eqb (parent_at s e.row) r) (under s e.row j + hits s r es j) 0 q ∙ sym (cond-false (eqb (parent_at s e.row) r) (under s e.row (parent_at s j) + hits s r es (parent_at s j)) 0 q)
-    by-test i (inl q) =
+    by_test : hits s r es j ≡ hits s r es (parent_at s j) → (eqb (parent_at s e.row) r ≡ true) ⊎ (eqb (parent_at s e.row) r ≡ false) → hits s r (e ∷ es) j ≡ hits s r (e ∷ es) (parent_at s j)
+    by_test i (inr q) = cond-false (eqb (parent_at s e.row) r) (under s e.row j + hits s r es j) 0 q ∙ sym (cond-false (eqb (parent_at s e.row) r) (under s e.row (parent_at s j) + hits s r es (parent_at s j)) 0 q)
+    by_test i (inl q) =
         let d : j ≡ e.row → ⊥ = λ z. n (ap (parent_at s) z ∙ eqb-true (parent_at s e.row) r q) in
         let u : under s e.row j ≡ under s e.row (parent_at s j) = under_step s t e.row j g h d in
         cond-true (eqb (parent_at s e.row) r) (under s e.row j + hits s r es j) 0 q
@@ -269,11 +269,11 @@ count_same r (suc n) h = by_last (λ l. count_same r n l) (cases_eq n r)
 
 sizes_count : (s : List ShapeRow) (r : ℕ) (es : List Entry) → sizes_of s (led_by s r es) ≡ count (λ j. hits s r es j) (length s)
 sizes_count s r [] = sym (count_none (length s))
-sizes_count s r (e ∷ es) = by-test (sizes_count s r es) (eqb (parent_at s e.row) r)
+sizes_count s r (e ∷ es) = by_test (sizes_count s r es) (eqb (parent_at s e.row) r)
   where
-    by-test : sizes_of s (led_by s r es) ≡ count (λ j. hits s r es j) (length s) → (b : Bool) → sizes_of s (cond b (e.row ∷ led_by s r es) []) ≡ count (λ j. cond b (under s e.row j + hits s r es j) 0) (length s)
-    by-test i true = ap (λ n. size_of s e.row + n) i ∙ sym (count_add (λ j. under s e.row j) (λ j. hits s r es j) (length s))
-    by-test i false = sym (count_none (length s))
+    by_test : sizes_of s (led_by s r es) ≡ count (λ j. hits s r es j) (length s) → (b : Bool) → sizes_of s (cond b (e.row ∷ led_by s r es) []) ≡ count (λ j. cond b (under s e.row j + hits s r es j) 0) (length s)
+    by_test i true = ap (λ n. size_of s e.row + n) i ∙ sym (count_add (λ j. under s e.row j) (λ j. hits s r es j) (length s))
+    by_test i false = sym (count_none (length s))
 
 -- ---- what the outline needs
 

@@ -51,17 +51,17 @@ rank_equal : (a b : ℕ) → a ≡ b → nat_cmp a b ≡ Equal
 rank_equal a b h = cond-false (ltb a b) Less (cond (eqb a b) Equal Greater) (le-ltb a b (omega arith)) ∙ cond-true (eqb a b) Equal Greater (eq-eqb a b h)
 
 upto_from : (x y : Entry) → is_lt (compared y x) ≡ false → Upto x y
-upto_from x y h = by-parent (cases_order x.parent y.parent)
+upto_from x y h = by_parent (cases_order x.parent y.parent)
   where
-    by-function : (x.parent ≡ y.parent) → (y.function < x.function) ⊎ (x.function ≤ y.function) → Upto x y
-    by-function e (inr l) = inr (e, l)
-    by-function e (inl l) =
+    by_function : (x.parent ≡ y.parent) → (y.function < x.function) ⊎ (x.function ≤ y.function) → Upto x y
+    by_function e (inr l) = inr (e, l)
+    by_function e (inl l) =
         absurd (true≢false (sym (ap (λ o. is_lt (ordering_then o (ordering_then (nat_cmp y.function x.function) (nat_cmp y.row x.row)))) (rank_equal y.parent x.parent (sym e)) ∙ ap (λ o. is_lt (ordering_then o (nat_cmp y.row x.row))) (rank_less y.function x.function l)) ∙ h))
 
-    by-parent : (x.parent ≡ y.parent) ⊎ ((x.parent < y.parent) ⊎ (y.parent < x.parent)) → Upto x y
-    by-parent (inl e) = by-function e (cases_lt y.function x.function)
-    by-parent (inr (inl l)) = inl l
-    by-parent (inr (inr l)) = absurd (true≢false (sym (ap (λ o. is_lt (ordering_then o (ordering_then (nat_cmp y.function x.function) (nat_cmp y.row x.row)))) (rank_less y.parent x.parent l)) ∙ h))
+    by_parent : (x.parent ≡ y.parent) ⊎ ((x.parent < y.parent) ⊎ (y.parent < x.parent)) → Upto x y
+    by_parent (inl e) = by_function e (cases_lt y.function x.function)
+    by_parent (inr (inl l)) = inl l
+    by_parent (inr (inr l)) = absurd (true≢false (sym (ap (λ o. is_lt (ordering_then o (ordering_then (nat_cmp y.function x.function) (nat_cmp y.row x.row)))) (rank_less y.parent x.parent l)) ∙ h))
 
 -- ---- each row once
 
@@ -73,15 +73,15 @@ abbrev From : ℕ → ℕ → ℕ → ℕ → Type 0
 From a b j m = ((j ≡ a) × (m ≡ b)) ⊎ (((j ≡ a → ⊥) × ((j ≡ b) × (m ≡ a))) ⊎ ((j ≡ a → ⊥) × ((j ≡ b → ⊥) × (m ≡ j))))
 
 came : (f g : ℕ → Entry) (a b : ℕ) → Swapped f g a b → (j : ℕ) → (m : ℕ) × (g j ≡ f m) × From a b j m
-came f g a b w j = by-a (cases_eq j a)
+came f g a b w j = by_a (cases_eq j a)
   where
-    by-b : (j ≡ a → ⊥) → (j ≡ b) ⊎ (j ≡ b → ⊥) → (m : ℕ) × (g j ≡ f m) × From a b j m
-    by-b n (inl e) = (a, ap g e ∙ w.1, inr (inl (n, (e, refl))))
-    by-b n (inr o) = (j, w.2 j n o, inr (inr (n, (o, refl))))
+    by_b : (j ≡ a → ⊥) → (j ≡ b) ⊎ (j ≡ b → ⊥) → (m : ℕ) × (g j ≡ f m) × From a b j m
+    by_b n (inl e) = (a, ap g e ∙ w.1, inr (inl (n, (e, refl))))
+    by_b n (inr o) = (j, w.2 j n o, inr (inr (n, (o, refl))))
 
-    by-a : (j ≡ a) ⊎ (j ≡ a → ⊥) → (m : ℕ) × (g j ≡ f m) × From a b j m
-    by-a (inl e) = (b, ap g e ∙ w.0, inl (e, refl))
-    by-a (inr n) = by-b n (cases_eq j b)
+    by_a : (j ≡ a) ⊎ (j ≡ a → ⊥) → (m : ℕ) × (g j ≡ f m) × From a b j m
+    by_a (inl e) = (b, ap g e ∙ w.0, inl (e, refl))
+    by_a (inr n) = by_b n (cases_eq j b)
 
 from_within : (a b j m n : ℕ) → a < n → b < n → j < n → From a b j m → m < n
 from_within a b j m n la lb lj (inl h) = omega (arith, h.1)

@@ -158,8 +158,8 @@ module _ (s : List Shape) (n : ℕ) (t : Table s n 0) where
       (λ e. eq-eqb _ r (begins_down r (get_or s j blank).depth j hr h refl e))
 
   module _ {M : Type 0} {m : Measure M} (laws : Laws m) (v : List M) where
-    pub stands-inclusive : (r : ℕ) → r < n → joins m (stands s (suc r) r) (numbered m.none v n) ≡ inclusive_of m s v n r
-    stands-inclusive r hr = joins_same m v n _ _ (λ j h. stands_begins r j hr h) ∙ sym (listed_numbered m s v n (λ x. begins (context s r).path x.path))
+    pub stands_inclusive : (r : ℕ) → r < n → joins m (stands s (suc r) r) (numbered m.none v n) ≡ inclusive_of m s v n r
+    stands_inclusive r hr = joins_same m v n _ _ (λ j h. stands_begins r j hr h) ∙ sym (listed_numbered m s v n (λ x. begins (context s r).path x.path))
 
     pub fill_start : (col : List M) → n ≤ length col → ((k : ℕ) → k < n → get_or col k m.none ≡ get_or v k m.none) → Filling m s v col n n
     fill_start col long e = record {
@@ -185,34 +185,34 @@ module _ (s : List Shape) (n : ℕ) (t : Table s n 0) where
               ∙ ap₂ m.join (x.below p (omega arith) (omega arith)) (x.below r hr (omega arith))
               ∙ sym (joins_two laws v n (stands s r p) (stands s (suc r) p) (stands s (suc r) r)
               (λ j hj. ap (λ z. eqb z p) (step j hj) ∙ meet (holder s (suc r) (get_or s j blank).depth j) p r)
-              (λ j hj. apart-at (holder s (suc r) (get_or s j blank).depth j) p r lp))))
+              (λ j hj. apart_at (holder s (suc r) (get_or s j blank).depth j) p r lp))))
               (λ (y : k ≡ p → ⊥).
               get_or-set_other col p k w m.none y
               ∙ x.below k h (omega arith)
               ∙ joins_same m v n _ _ (λ j hj. sym (ap (λ z. eqb z k) (step j hj) ∙ miss (holder s (suc r) (get_or s j blank).depth j) p r k y l)))
               (cases_eq k p);
           above = λ k h l. ap (λ c. get_or c k m.none) e ∙ get_or-set_other col p k w m.none (λ (z : k ≡ p). omega arith) ∙ ⊎_elim
-              (λ (y : k ≡ r). subst (λ j. get_or col j m.none ≡ inclusive_of m s v n j) (sym y) (x.below r hr (omega arith) ∙ stands-inclusive r hr))
+              (λ (y : k ≡ r). subst (λ j. get_or col j m.none ≡ inclusive_of m s v n j) (sym y) (x.below r hr (omega arith) ∙ stands_inclusive r hr))
               (λ (y : k ≡ r → ⊥). x.above k h (omega arith))
               (cases_eq k r);
         }
       where
         meet : (a p r : ℕ) → eqb (cond (eqb a r) p a) p ≡ (eqb a p || eqb a r)
         meet a p r = ⊎_elim
-            (λ (y : eqb a r ≡ true). ap (λ b. eqb (cond b p a) p) y ∙ eq-eqb p p refl ∙ sym (ap (λ b. eqb a p || b) y ∙ or-true (eqb a p)))
+            (λ (y : eqb a r ≡ true). ap (λ b. eqb (cond b p a) p) y ∙ eq-eqb p p refl ∙ sym (ap (λ b. eqb a p || b) y ∙ or_true (eqb a p)))
             (λ (y : eqb a r ≡ false). ap (λ b. eqb (cond b p a) p) y ∙ sym (ap (λ b. eqb a p || b) y ∙ or_no (eqb a p)))
             (cases_Bool (eqb a r))
           where
-            or-true : (b : Bool) → (b || true) ≡ true
-            or-true true = refl
-            or-true false = refl
+            or_true : (b : Bool) → (b || true) ≡ true
+            or_true true = refl
+            or_true false = refl
 
             or_no : (b : Bool) → (b || false) ≡ b
             or_no true = refl
             or_no false = refl
 
-        apart-at : (a p r : ℕ) → p < r → (eqb a p && eqb a r) ≡ false
-        apart-at a p r l = ⊎_elim
+        apart_at : (a p r : ℕ) → p < r → (eqb a p && eqb a r) ≡ false
+        apart_at a p r l = ⊎_elim
             (λ (y : a ≡ p). ap (λ b. eqb a p && b) (ne_eqb a r (λ (z : a ≡ r). omega arith)) ∙ and_no (eqb a p))
             (λ (y : a ≡ p → ⊥). ap (λ b. b && eqb a r) (ne_eqb a p y))
             (cases_eq a p)
@@ -229,7 +229,7 @@ module _ (s : List Shape) (n : ℕ) (t : Table s n 0) where
 
     pub fill_end : (col : List M) → Filling m s v col n 1 → (k : ℕ) → k < n → get_or col k m.none ≡ inclusive_of m s v n k
     fill_end col x k h = ⊎_elim
-        (λ (y : k ≡ 0). subst (λ j. get_or col j m.none ≡ inclusive_of m s v n j) (sym y) (x.below 0 (omega arith) (omega arith) ∙ stands-inclusive 0 (omega arith)))
+        (λ (y : k ≡ 0). subst (λ j. get_or col j m.none ≡ inclusive_of m s v n j) (sym y) (x.below 0 (omega arith) (omega arith) ∙ stands_inclusive 0 (omega arith)))
         (λ (y : k ≡ 0 → ⊥). x.above k h (omega arith))
         (cases_eq k 0)
 

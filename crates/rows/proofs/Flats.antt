@@ -125,8 +125,8 @@ module _ {M : Type 0} {m : Measure M} (laws : Laws m) (s : List Shape) (v : List
         ∙ sym (ap flat (context_child s n top t i h f)))
         (cases_eq (get_or s i blank).function 0)
 
-    pub flat-ready : Ready s' marks c i
-    flat-ready =
+    pub flat_ready : Ready s' marks c i
+    flat_ready =
         let hf = ap (λ (r : Shape). r.function) here in
         let hp = ap (λ (r : Shape). r.parent) here in
         record {

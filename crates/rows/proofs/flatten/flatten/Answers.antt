@@ -7,7 +7,7 @@ use Rattle.rows.specs.Flats.{Flattening}
 use Rattle.rows.proofs.Views.{long, long_values, long_marks}
 use Rattle.rows.proofs.Sounds.{some}
 use Rattle.rows.proofs.Chains.{indexed_moved}
-use Rattle.rows.proofs.Flats.{flat_start, flat-ready, flat_step}
+use Rattle.rows.proofs.Flats.{flat_start, flat_ready, flat_step}
 use Rattle.rows.proofs.flatten.flatten.Goals as goal
 
 pub link-requires : goal.link-requires
@@ -38,7 +38,7 @@ flatten_row-to-requires g c =
     record {
       fits = omega arith;
       few = omega arith;
-      ready = flat-ready g.met.M.Metric.lawful (shapes rows) (values m.means rows) c.args.n c.args.top t (shapes c.loop-i.rows) (values m.means c.loop-i.rows) (marks c.loop-i.rows) c.loop-i.c c.loop-i.i (omega arith) c.loop-i.invariant.0;
+      ready = flat_ready g.met.M.Metric.lawful (shapes rows) (values m.means rows) c.args.n c.args.top t (shapes c.loop-i.rows) (values m.means c.loop-i.rows) (marks c.loop-i.rows) c.loop-i.c c.loop-i.i (omega arith) c.loop-i.invariant.0;
       indexed = c.loop-i.invariant.1;
     }
 

@@ -11,11 +11,11 @@ use Rattle.profile.proofs.summary.Summary.finish.Goals as goal
 pub flatten-count-requires : goal.flatten-count-requires
 flatten-count-requires g c = record { fits = c.args.self.fits; few = c.args.self.few; table = (whole c.args.self.sound).table }
 
-pub invariant-of-result : goal.invariant-of-result
-invariant-of-result g c =
+pub invariant_of-result : goal.invariant_of-result
+invariant_of-result g c =
     let x = c.flatten-count.ensures in
     let a = c.args.self in
-    (rw long at x.table.fits, (omega (arith, a.few), (omega (arith, c.look-open.ensures.saw.mark, (x.marked a.current a.opened).0), (∣ x.table ∣₁, tt))))
+    record { fits = rw long at x.table.fits; few = omega (arith, a.few); opened = omega (arith, c.look-open.ensures.saw.mark, (x.marked a.current a.opened).0); sound = ∣ x.table ∣₁ }
 
 pub returns : goal.returns
 returns g c =

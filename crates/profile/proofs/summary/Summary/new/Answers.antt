@@ -8,12 +8,12 @@ use Rattle.rows.proofs.Bridge.{reading_new}
 use Rattle.profile.proofs.Giving.{held_path}
 use Rattle.profile.proofs.summary.Summary.new.Goals as goal
 
-pub invariant-of-result : goal.invariant-of-result
-invariant-of-result g c =
+pub invariant_of-result : goal.invariant_of-result
+invariant_of-result g c =
     let rows = c.clear.new.rows in
     let h : 0 < length (shapes rows) = omega (arith, long rows, c.requires.some) in
     let w = subst (λ x. Sound x 1 0 0) (sym c.push.ensures.same) (table_new (shapes rows) h) in
-    (rw long at w.table.fits, (omega arith, (w.opened, (∣ w ∣₁, (∣ c.push.ensures.indexed ∣₁, tt)))))
+    record { fits = rw long at w.table.fits; few = omega arith; opened = w.opened; sound = ∣ w ∣₁; indexed = ∣ c.push.ensures.indexed ∣₁ }
 
 pub returns : goal.returns
 returns g c =

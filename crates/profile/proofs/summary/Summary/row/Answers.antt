@@ -28,5 +28,5 @@ returns g c =
       child = λ f.
           let r = child_row s n a.level t k h (named_row s n a.level t k h f) in
           (omega (arith, q.parent, r.0), r.1 ∙ sym (ap (λ p. at (context s p).level ((get_or s k blank).function ∷ (context s p).path)) q.parent) ∙ sym (ap (λ f. at (context s c.look-seen.result.parent).level (f ∷ (context s c.look-seen.result.parent).path)) q.function));
-      value = c.value-of-value.ensures ∙ sym (joins_own g.met.M.Metric.lawful s v n a.level t k n h (omega arith));
+      value = c.value_of-value.ensures ∙ sym (joins_own g.met.M.Metric.lawful s v n a.level t k n h (omega arith));
     }

@@ -18,7 +18,7 @@ returns-then-count-deep-2 g c =
     let m = g.M.Metric in
     let a = c.args.self.now in
     let rows = a.rows.now in
-    let d = sym c.at-open-deep.ensures.depth in
+    let d = sym c.at_open-deep.ensures.depth in
     let p = depth_is (shapes rows) a.current in
     let low = path_low g.met.M.Metric.lawful (shapes rows) (values m.means rows) a.count a.level a.current (whole a.sound) (long_values m.means rows) in
     (refl, (ranged_from 1 4095 c.args.count (omega arith) (omega arith), omega (arith, unwound_long c.args.count (context (shapes rows) a.current)), omega arith))
@@ -35,18 +35,18 @@ loop-i-preserved g c =
     let m = g.M.Metric in
     let a = c.args.self.now in
     let rows = a.rows.now in
-    let d = sym c.at-open-deep.ensures.depth in
+    let d = sym c.at_open-deep.ensures.depth in
     let p = depth_is (shapes rows) a.current in
     let low = path_low g.met.M.Metric.lawful (shapes rows) (values m.means rows) a.count a.level a.current (whole a.sound) (long_values m.means rows) in
     let fits : a.count + (c.args.count - length (context (shapes rows) a.current).path) ≤ length rows = elim c.else-count-deep.branch [ else-count-deep-via-then-count-deep+else-count-deep-2 w ↦ omega (arith, w.if-count-deep-2.false) | else-count-deep-via-else-count-deep w ↦ omega (arith, w.if-count-deep.false) ] in
-    along m.measure (view m.measure m.means a) c.args.count low fits c.loop-i.i (view m.measure m.means c.loop-i.self) (view m.measure m.means c.return-.new.self) c.return-.result (omega arith) c.loop-i.invariant c.return-.ensures
+    along m.measure (view m.measure m.means a) c.args.count low fits c.loop-i.i (view m.measure m.means c.loop-i.self) (view m.measure m.means c.return_.new.self) c.return_.result (omega arith) c.loop-i.invariant c.return_.ensures
 
 pub returns : goal.returns
 returns g c =
     let m = g.M.Metric in
     let a = c.args.self.now in
     let rows = a.rows.now in
-    let d = sym c.at-open-deep.ensures.depth in
+    let d = sym c.at_open-deep.ensures.depth in
     let p = depth_is (shapes rows) a.current in
     let low = path_low g.met.M.Metric.lawful (shapes rows) (values m.means rows) a.count a.level a.current (whole a.sound) (long_values m.means rows) in
     let fits : a.count + (c.args.count - length (context (shapes rows) a.current).path) ≤ length rows = elim c.else-count-deep.branch [ else-count-deep-via-then-count-deep+else-count-deep-2 w ↦ omega (arith, w.if-count-deep-2.false) | else-count-deep-via-else-count-deep w ↦ omega (arith, w.if-count-deep.false) ] in

@@ -24,5 +24,5 @@ returns g c =
       child = λ f.
           let r = child_row s n 0 t k h (named_row s n 0 t k h f) in
           (omega (arith, q.parent, r.0), ap (λ (x : Position). x.path) r.1 ∙ sym (ap (λ p. (get_or s k blank).function ∷ (context s p).path) q.parent) ∙ sym (ap (λ f. f ∷ (context s c.look-seen.result.parent).path) q.function));
-      value = c.value-of-value.ensures ∙ sym (path_value s n t g.met.M.Metric.lawful v k h);
+      value = c.value_of-value.ensures ∙ sym (path_value s n t g.met.M.Metric.lawful v k h);
     }

@@ -3,7 +3,7 @@ use Rattle.rows.specs.Shapes.{shapes}
 use Rattle.rows.specs.Cells.{values}
 use Rattle.rows.proofs.Sounds.{whole_table, some}
 use Rattle.rows.proofs.Readings.{depth_is}
-use Rattle.profile.proofs.Telling.{paths_apart, path-there, path-of}
+use Rattle.profile.proofs.Telling.{paths_apart, path_there, path_of}
 use Rattle.profile.proofs.tree.Tree.row_count.Goals as goal
 
 pub returns : goal.returns
@@ -18,8 +18,8 @@ returns g c =
       is = refl;
       whole = record {
         some = some s n 0 t;
-        there = path-there s n t m.measure.none v;
-        each = path-of s n t m.measure.none v;
+        there = path_there s n t m.measure.none v;
+        each = path_of s n t m.measure.none v;
         apart = paths_apart s n t;
         shallow = λ k h. omega (arith, depth_is s k, (t.good k h).depth);
       };
