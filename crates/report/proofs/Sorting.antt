@@ -1,7 +1,6 @@
 -- What the sort of the entries gives: the same entries, by parent and then by function.
 use Rattle.std.proofs.Common.{◌≡◌, ℕ, ◌+◌, ◌-◌, ◌<◌, ◌≤◌, false, cond, eqb, ltb, ◌⊎◌, List, [], ◌∷◌, length, Ordering, Less, Equal, Greater, sym, refl, ap, ◌∙◌, subst, inl, inr, arith}
-use Rattle.std.specs.Cmp.{IsTotalOrder, nat_cmp_total, pairs}
-use Rattle.std.specs.Ordering.{is_lt, ordering_then, MatchOrdering, Then, nat_cmp}
+use Rattle.std.specs.Ordering.{is_lt, ordering_then, nat_cmp}
 use Rattle.std.specs.List.Sorted.{IsPermutation, IsSortedWithin}
 use Rattle.std.specs.List.{swap, ContainsAt as Has, AllByRecursion as All}
 use Rattle.std.specs.List as holes
@@ -20,29 +19,11 @@ use Rattle.report.specs.Order.{no_entry, entry_at, entry_of, Listed, Upto, Arran
 abbrev pub key : Entry → ℕ × (ℕ × ℕ)
 key x = (x.parent, (x.function, x.row))
 
-abbrev pub Ranks : ℕ → ℕ → Ordering → Type 0
-Ranks a b r = MatchOrdering r (a < b) (a ≡ b) (b < a)
-
--- one field, and where it is the same the rest
-then_from : (a b : ℕ) (R S : Type 0) (r : Ordering) → (R → S) → ((a < b) × (r ≡ Less)) ⊎ (((b < a) × (r ≡ Greater)) ⊎ ((a ≡ b) × R)) → (o : Ordering) × Ranks a b o × MatchOrdering o (r ≡ Less) S (r ≡ Greater)
-then_from a b R S r f (inl h) = (Less, h.0, h.1)
-then_from a b R S r f (inr (inl h)) = (Greater, h.0, h.1)
-then_from a b R S r f (inr (inr h)) = (Equal, h.0, f h.1)
-
-pub told : (x y : Entry) (r : Ordering) → (r ≡ (by-entry.ghosts).cmp x y) → Then (Ranks x.parent y.parent) (Then (Ranks x.function y.function) (Ranks x.row y.row)) r
-told x y r h = then_from x.parent y.parent _ _ r (then_from x.function y.function _ _ r (λ k. k)) h
-
 abbrev pub compared : Entry → Entry → Ordering
 compared x y = ordering_then (nat_cmp (key x).0 (key y).0) (ordering_then (nat_cmp (key x).1.0 (key y).1.0) (nat_cmp (key x).1.1 (key y).1.1))
 
-abbrev pub entries_total : IsTotalOrder (by-entry.ghosts).cmp
-entries_total = record {
-  cmp = compared;
-  says = λ x y r h. (pairs nat_cmp_total (pairs nat_cmp_total nat_cmp_total)).says (key x) (key y) r (told x y r h);
-  flip = λ x y. (pairs nat_cmp_total (pairs nat_cmp_total nat_cmp_total)).antisymm (key x) (key y);
-  trans = λ x y z. (pairs nat_cmp_total (pairs nat_cmp_total nat_cmp_total)).trans (key x) (key y) (key z);
-  alike = λ x y z. (pairs nat_cmp_total (pairs nat_cmp_total nat_cmp_total)).congr (key x) (key y) (key z);
-}
+pub compared_is : (x y : Entry) → (by-entry.ghosts).cmp x y ≡ compared x y
+compared_is x y = refl
 
 rank_less : (a b : ℕ) → a < b → nat_cmp a b ≡ Less
 rank_less a b h = cond-true (ltb a b) Less (cond (eqb a b) Equal Greater) (lt-ltb a b h)
@@ -134,7 +115,7 @@ has_listed s xs l i h g =
     let e : (i - 1) + 1 ≡ i = omega arith in
     (i - 1, k, λ d. get_or_default xs (i - 1) d no_entry k ∙ l.each (i - 1) k ∙ ap (entry_of s) e)
 
-pub arranged : (s : List ShapeRow) (xs ys : List Entry) (m : ℕ) → Listed s xs → IsPermutation xs ys → length ys ≡ m → IsSortedWithin (λ x y. is_lt (entries_total.cmp x y)) ys 0 m → Arranged s ys
+pub arranged : (s : List ShapeRow) (xs ys : List Entry) (m : ℕ) → Listed s xs → IsPermutation xs ys → length ys ≡ m → IsSortedWithin (λ x y. is_lt (compared x y)) ys 0 m → Arranged s ys
 arranged s xs ys m l sh em up =
     let all : All (Stands s) ys = all_shuffled (Stands s) xs ys sh (All-from_get_or (Stands s) xs no_entry (stands_listed s xs l)) in
     record {

@@ -38,7 +38,7 @@ pub(crate) fn ordered(heap: Global, shape: &[ShapeRow]) -> Result<Vec<Entry>, Al
     ensures { IfOk result (λ v. Arranged shape.now v.items) }
 {
     let mut order = listed(heap, shape)?;
-    order.sort();
+    order.sort_unstable();
     Ok(order)
 }
 

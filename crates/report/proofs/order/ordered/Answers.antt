@@ -1,7 +1,10 @@
-use Rattle.std.proofs.Common.{vec_items, vec_len, sym, ◌∙◌}
-use Rattle.report.proofs.Sorting.{arranged, entries_total}
+use Rattle.std.proofs.Common.{length, refl}
+use Rattle.report.proofs.Sorting.{arranged}
 use Rattle.report.proofs.order.ordered.Goals as goal
 
 pub returns : goal.returns
 returns c =
-    arranged c.args.shape.now (vec_items c.in-ok-order.order) (vec_items c.sort.new.self) (vec_len c.in-ok-order.order) c.in-ok-order.ensures c.sort.ensures.permutation (sym c.sort.new.self.ok.0 ∙ c.sort.ensures.len) c.sort.ensures.sorted
+    let list = c.in_ok-order.order.items in
+    let order = c.sort_unstable.new.self.items in
+    let e = c.sort_unstable.ensures in
+    arranged c.args.shape.now list order (length order) c.in_ok-order.ensures e.permutation refl e.sorted

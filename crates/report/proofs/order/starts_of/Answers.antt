@@ -5,8 +5,8 @@ use Rattle.report.proofs.order.starts_of.Goals as goal
 
 pub loop-k-init : goal.loop-k-init
 loop-k-init c =
-    let filled = c.in-ok-starts.ensures in
-    (filled.len, begins_none c.args.order.now (vec_items c.in-ok-starts.starts) c.args.rows (filled.items-if-clones-equal (λ y h. h)))
+    let filled = c.in_ok-starts.ensures in
+    (filled.len, begins_none c.args.order.now (vec_items c.in_ok-starts.starts) c.args.rows (filled.items_if_clones_equal (λ y h. h)))
 
 pub loop-k-preserved : goal.loop-k-preserved
 loop-k-preserved c =

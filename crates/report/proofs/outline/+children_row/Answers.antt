@@ -36,7 +36,7 @@ children-loop-child-preserved t c =
 pub children-returns : goal.children-returns
 children-returns t c =
     let s = c.args.shape.now in
-    let none = c.in-default.ensures.leads in
+    let none = c.in_default.ensures.leads in
     record {
       end = omega (arith, c.loop-child.invariant.0, ap (sizes_of s) none);
       drawn = c.loop-child.invariant.1 c.loop-child.end c.loop-child.column (rows_none s _ c.loop-child.end c.loop-child.column none);

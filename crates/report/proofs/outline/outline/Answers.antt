@@ -5,7 +5,7 @@ use Rattle.report.proofs.outline.outline.Goals as goal
 
 pub row-end-requires : goal.row-end-requires
 row-end-requires c =
-    let tree = c.in-ok-tree.ensures in
+    let tree = c.in_ok-tree.ensures in
     record {
       shape = tree.0;
       tree = tree.1;
@@ -16,7 +16,7 @@ row-end-requires c =
 
 pub returns : goal.returns
 returns c =
-    let tree = c.in-ok-tree.ensures in
+    let tree = c.in_ok-tree.ensures in
     record {
       answers = (tree.0, omega (arith, c.if-column-shape.false));
       drawn = whole_drawn c.args.shape.now c.row-end.result c.args.column.now c.row-end.new.column (omega (arith, c.row-end.ensures.end, size_root c.args.shape.now tree.0.rooted)) (omega (arith, c.if-column-shape.false)) c.row-end.ensures.drawn;
