@@ -3,4 +3,4 @@ use Rattle.std.proofs.lemmas.List.{length-map}
 use Rattle.printing.proofs.inclusive_of.Goals as goal
 
 pub unreachable-requires : goal.unreachable-requires
-unreachable-requires c = omega (arith, simp length-map at c.in-Err.ensures.0, c.as-mut-slice.ensures.len, c.in-ok-inclusive.ensures.len, c.row-count.ensures.is)
+unreachable-requires c = omega (arith, simp length-map at c.in-Err.ensures.0, c.as_mut_slice.ensures.len, c.in_ok-inclusive.ensures.len, c.row_count.ensures.is)

@@ -10,11 +10,11 @@ pub returns-in-Ok : goal.returns-in-Ok
 returns-in-Ok c =
     let s = c.deref.result.now in
     let col = c.outline.new.column in
-    let v = c.in-ok-order.order in
+    let v = c.in_ok-order.order in
     let n = c.args.tree.now.count in
-    let ls : length s ≡ n = c.deref.ensures.len ∙ c.in-ok-shape.ensures.1 in
-    let lo : v.len ≡ n = c.in-ok-order.ensures.len ∙ c.len.ensures ∙ c.in-ok-shape.ensures.1 in
-    let k = drawn_below s c.as-mut-slice.result.now col c.in-Ok.ensures.answers.0.rooted.some (c.as-mut-slice.ensures.len ∙ lo ∙ sym ls) c.in-Ok.ensures.drawn in
+    let ls : length s ≡ n = c.deref.ensures.len ∙ c.in_ok-shape.ensures.1 in
+    let lo : v.len ≡ n = c.in_ok-order.ensures.len ∙ c.len.ensures ∙ c.in_ok-shape.ensures.1 in
+    let k = drawn_below s c.as_mut_slice.result.now col c.in-Ok.ensures.answers.0.rooted.some (c.as_mut_slice.ensures.len ∙ lo ∙ sym ls) c.in-Ok.ensures.drawn in
     let l : v.len ≤ length col = omega (arith, k.0, ls, lo) in
     let e : take v.len (col ++ drop (length col) v.items) ≡ col = rw take-append-le (take_all v.len col (omega (arith, k.0, ls, lo))) in
     (lo, subst (λ ls. All (λ (x : Line). x.row < n) ls) (sym e) (subst (λ i. All (λ (x : Line). x.row < i) col) ls k.1))
