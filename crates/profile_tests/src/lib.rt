@@ -18,8 +18,8 @@ mod tests {
     use trace::record::{Record, Sample};
     use trace::source::Source;
     use trace::table::TableSource;
+    use trace::text::TextSource;
     use trace_bytes::source::ByteSource;
-    use trace_text::source::TextSource;
 
     const WEIGHT_5: Sample = Sample {
         step: 0,
@@ -106,6 +106,70 @@ mod tests {
         Ok(())
     }
 
+    #[test]
+    fn read_in_stops_four_ways(rt: HostRuntime) {
+        let mut rows = [Row::<Calls>::empty(); 3];
+        let mut summary = Summary::new(&mut rows);
+        let mut source = TextSource::new(b"call 1\nback\ncall 2\nback\ncall 3\nback\nbad\n");
+        assert_eq!(rt;
+            read_in(&mut source, &mut summary, 0),
+            ReadIn {
+                added: 0,
+                stop: Stop::Limit,
+            }
+        );
+        assert_eq!(rt;
+            read_in(&mut source, &mut summary, 3),
+            ReadIn {
+                added: 3,
+                stop: Stop::Limit,
+            }
+        );
+        // the rejected call has left the source, and what was added stays
+        assert_eq!(rt;
+            read_in(&mut source, &mut summary, 9),
+            ReadIn {
+                added: 1,
+                stop: Stop::Rejected(Rejection::TooFewRows),
+            }
+        );
+        assert!(rt; summary.row_count() == 3);
+        let fault = Fault {
+            cause: Cause::UnknownKind,
+            place: 36,
+            passed: 0,
+        };
+        assert_eq!(rt;
+            read_in(&mut source, &mut summary, 9),
+            ReadIn {
+                added: 0,
+                stop: Stop::Rejected(Rejection::TooFewRows),
+            }
+        );
+        assert_eq!(rt;
+            read_in(&mut source, &mut summary, 9),
+            ReadIn {
+                added: 0,
+                stop: Stop::Faulted(fault),
+            }
+        );
+        assert_eq!(rt;
+            read_in(&mut source, &mut summary, 9),
+            ReadIn {
+                added: 0,
+                stop: Stop::Faulted(fault),
+            }
+        );
+        let mut rest = TextSource::new(b"");
+        assert_eq!(rt;
+            read_in(&mut rest, &mut summary, 1),
+            ReadIn {
+                added: 0,
+                stop: Stop::End,
+            }
+        );
+    }
+
     // What a read-in answers.
     fn answer(added: usize, stop: Stop) -> ReadIn {
         ReadIn { added, stop }
@@ -181,7 +245,10 @@ mod tests {
         );
         assert_eq!(rt;
             read_in(&mut source, &mut summary, 99),
-            answer(7, Stop::End)
+            ReadIn {
+                added: 7,
+                stop: Stop::End,
+            }
         );
         assert!(rt; summary.row_count() == 5 && summary.level() == 1);
         let tree = summary.finish();
