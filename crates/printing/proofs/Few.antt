@@ -1,16 +1,15 @@
 -- A text has no more records than bytes and one, so a read-in of it does not reach its limit. Assumes nothing.
-use Rattle.std.proofs.Common.{◌≡◌, ℕ, suc, ◌+◌, ◌<◌, ◌≤◌, Bool, true, false, cond, eqb, List, [], ◌∷◌, length, Ok, Err, Result, sym, refl, ap, ◌∙◌, arith}
+use Rattle.std.proofs.Common.{◌≡◌, ℕ, suc, ◌<◌, ◌≤◌, Bool, true, false, cond, eqb, List, [], ◌∷◌, length, Ok, Err, Result, sym, ◌∙◌, arith}
 use Rattle.trace.specs.declared.record.Record.{Record}
 use Rattle.trace.specs.declared.fault.Cause.{Cause}
 use Rattle.trace.specs.declared.fault.Ending.{Ending}
 use Rattle.trace.specs.declared.fault.Ending.TheVariants.{End as At-end, Broken}
 use Rattle.trace.specs.Pieces.{onto, pieces}
 use Rattle.trace.specs.Text.{line_record, record_then, line_records, lines, text_records}
-use Rattle.metrics.specs.Measures.{Measure}
 use Rattle.profile.specs.declared.reading.Stop.{Stop}
-use Rattle.profile.specs.declared.reading.Stop.TheVariants.{Limit, End, Faulted, Rejected}
+use Rattle.profile.specs.declared.reading.Stop.TheVariants.{Limit}
 use Rattle.profile.specs.Given.{Held}
-use Rattle.profile.specs.Reads.{stop_at, Stops, limited, ended, refused, Reads}
+use Rattle.profile.specs.Reads.{stop_at, Stops, limited, ended, refused}
 
 onto_long : (b : ℕ) (ps : List (List ℕ)) → length (onto b ps) ≤ suc (length ps)
 onto_long b [] = omega arith

@@ -1,6 +1,6 @@
 -- From what the calls of `print_trace` ensure to what is printed. Assumes nothing.
-use Rattle.std.proofs.Common.{◌≡◌, ℕ, ◌<◌, ◌≤◌, true, false, ltb, List, length, IfOk, Some, Ok, Err, MatchBool, Option, Result, sym, refl, ap, ◌∙◌, subst, arith}
-use Rattle.std.proofs.lemmas.Bool.{le-ltb, lt-ltb}
+use Rattle.std.proofs.Common.{◌≡◌, ℕ, ◌≤◌, List, length, IfOk, Some, Ok, Err, MatchBool, Option, Result, sym, ap, subst, arith}
+use Rattle.std.proofs.lemmas.Bool.{le-ltb}
 use Rattle.trace.specs.declared.record.Record.{Record}
 use Rattle.trace.specs.declared.fault.Ending.{Ending}
 use Rattle.trace.specs.Text.{text_records, text_ending}
@@ -12,7 +12,7 @@ use Rattle.profile.specs.View.{fresh}
 use Rattle.profile.specs.Reads.{Reads}
 use Rattle.report.specs.declared.page.StopLine.{StopLine}
 use Rattle.printing.specs.declared.Printed.{Printed}
-use Rattle.printing.specs.Prints.{cost, stopping, too_long, Shows, Reading, Prints, stop_line}
+use Rattle.printing.specs.Prints.{cost, stopping, Shows, Reading, Prints, stop_line}
 use Rattle.printing.proofs.Few.{text_few, stops_below}
 
 -- what is made, by what follows of it

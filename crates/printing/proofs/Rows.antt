@@ -1,11 +1,11 @@
 -- Each line of an outline is of a row of the shape. Assumes nothing.
-use Rattle.std.proofs.Common.{◌≡◌, ℕ, ◌<◌, ◌≤◌, List, [], ◌∷◌, ◌++◌, length, drop, sym, refl, ap, ◌∙◌, subst, append-nil, arith}
+use Rattle.std.proofs.Common.{◌≡◌, ℕ, ◌<◌, List, [], ◌∷◌, ◌++◌, length, sym, ap, ◌∙◌, subst, append-nil, arith}
 use Rattle.std.specs.List.{AllByRecursion as All}
 use Rattle.std.proofs.ByRecursion.{All-append, All-weaker}
 use Rattle.std.proofs.lemmas.List.{drop_all}
 use Rattle.rows.specs.declared.shape.ShapeRow.{ShapeRow}
 use Rattle.report.specs.declared.outline.Line.{Line}
-use Rattle.report.specs.Outline.{line_of, IsChild, IsChildren, Outlines, none, more, OutlineOf, Drawn}
+use Rattle.report.specs.Outline.{line_of, IsChild, IsChildren, Outlines, none, more, Drawn}
 
 module _ (s : List ShapeRow) where
   children_below : (cs : List ℕ) (r : ℕ) → IsChildren s r cs → All (λ i. i < length s) cs

@@ -1,5 +1,5 @@
 -- The answers to one record. Assumes nothing.
-use Rattle.std.proofs.Common.{◌≡◌, ℕ, zero, suc, ◌+◌, ◌-◌, ◌<◌, ◌≤◌, max, Bool, true, false, ◌&&◌, leb, ◌⊎◌, List, [], ◌∷◌, length, get_or, set, Ok, Err, Result, sym, refl, ap, ◌∙◌, subst, ap₂, ⊎_elim, add-one, arith, length-set}
+use Rattle.std.proofs.Common.{◌≡◌, ℕ, zero, suc, ◌+◌, ◌-◌, ◌<◌, ◌≤◌, max, Bool, true, false, ◌&&◌, leb, List, [], ◌∷◌, length, get_or, set, Ok, Err, Result, sym, refl, ap, ◌∙◌, subst, ap₂, ⊎_elim, add-one, arith, length-set}
 use Rattle.std.proofs.lemmas.Bool.{cases_lt, cond-true, cond-false, lt-ltb, le-ltb, le-leb, lt-leb, leb-true, and_from, and_parts}
 use Rattle.trace.specs.declared.record.Record.{Record}
 use Rattle.trace.specs.declared.record.Record.TheVariants.{Call, Return, Unwind}
@@ -8,7 +8,7 @@ use Rattle.rows.specs.declared.rejection.Rejection.TheVariants.{OutOfRange, Tabl
 use Rattle.model.specs.Positions.{Path, Position, at, same, returned, unwound, move}
 use Rattle.metrics.specs.Measures.{Measure, Laws}
 use Rattle.model.specs.Summaries.{Summary, any_of, added}
-use Rattle.rows.specs.Shapes.{Shape, blank, child, root}
+use Rattle.rows.specs.Shapes.{Shape, blank, root}
 use Rattle.rows.specs.Sound.{Sound}
 use Rattle.rows.specs.Index.{Found}
 use Rattle.rows.specs.Steps.{Entered, Refused, grownValues}

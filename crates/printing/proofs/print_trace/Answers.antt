@@ -1,4 +1,4 @@
-use Rattle.std.proofs.Common.{◌≡◌, ◌≤◌, length, sym, refl, ap, ◌∙◌, arith}
+use Rattle.std.proofs.Common.{ap, ◌∙◌}
 use Rattle.profile.specs.View.{fresh}
 use Rattle.printing.specs.Prints.{cost}
 use Rattle.printing.proofs.Printing.{below_limit, printed}

@@ -1,4 +1,4 @@
-use Rattle.std.proofs.Common.{◌≡◌, ◌≤◌, ◌++◌, length, take, drop, sym, refl, ap, ◌∙◌, subst, arith}
+use Rattle.std.proofs.Common.{◌≡◌, ◌≤◌, ◌++◌, length, take, drop, sym, ap, ◌∙◌, subst, arith}
 use lib.Seq.{take-append-le}
 use Rattle.rows.specs.ShapeColumn.{IsShape}
 use Rattle.printing.proofs.shape_of.Goals as goal

@@ -1,5 +1,4 @@
 use Rattle.std.proofs.Common.{ap, ◌∙◌, arith}
-use Rattle.rows.specs.Shapes.{shapes}
 use Rattle.rows.specs.Cells.{values}
 use Rattle.rows.specs.Steps.{bookedValues}
 use Rattle.rows.proofs.Views.{long}
