@@ -15,7 +15,7 @@ import sys
 NAME = r"[^\s:(){}\[\],;.«»@]+"
 DEFINITION = re.compile(r"^(?:abbrev |unfoldable )*(?:pub )?(?:(record|data) (?=.* : )|(?=\S+ : ))(" + NAME + r")(?=\s)")
 FIELD = re.compile(r"^ +(?:pub )?(" + NAME + r") : ")
-LOCAL = re.compile(r"(?:\blet |[({]|\bas )([a-z][\w']*(?:-[\w']+)+)(?= [:=]|[,}])")
+LOCAL = re.compile(r"(?:\blet |[({]|\bas )([A-Za-z][\w']*(?:-[\w']+)+)(?= [:=]|[,}])")
 WORDS = ("use ", "--", "unfolding ", "let ", "mod ", "pub mod ", "infix", "pub use ")
 # what a token is made of; a dot stands between the parts of a path or a projection
 PART = r"[\w'′₀-₉-]"
@@ -65,7 +65,7 @@ def own_names():
                 else:
                     for m in LOCAL.finditer(line.partition("--")[0]):
                         if not line.startswith("use ") or m[0].startswith("as "):
-                            new.setdefault(m[1], spelled(m[1], False))
+                            new.setdefault(m[1], spelled(m[1], m[1][0].isupper()))
                     continue
                 if not re.fullmatch(r"[\w'′₀-₉-]+", name) or not ("-" in name or "′" in name):
                     continue

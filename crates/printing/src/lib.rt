@@ -3,7 +3,7 @@
 #![tactic(auto)]
 
 ghost use Rattle.std.specs.Prelude.{◌≡◌, ℕ, ◌+◌, ◌<◌, ◌≤◌, length, IfOk, Some, None, vec_len, ◌≢◌};
-ghost use Rattle.std.specs.List.{AllByRecursion as All};
+ghost use Rattle.std.specs.List.{AllByRecursion};
 ghost use Rattle.rows.specs.ShapeColumn.{IsShape};
 ghost use Rattle.profile.specs.declared.reading.Stop.TheVariants.{Limit};
 ghost use Rattle.printing.specs.Prints.{named, stopping, Prints, Shows, too_long};
@@ -95,7 +95,7 @@ fn shape_of(heap: Global, tree: &Tree<'_, Cost>) -> Result<Vec<ShapeRow>, AllocE
 
 // The tree's rows in outline order.
 fn order_of(heap: Global, tree: &Tree<'_, Cost>) -> Result<Vec<Line>, AllocError>
-    ensures { IfOk result (λ v. (vec_len v ≡ tree.now.count) × All (λ line. line.row < tree.now.count) v.items) }
+    ensures { IfOk result (λ v. (vec_len v ≡ tree.now.count) × AllByRecursion (λ line. line.row < tree.now.count) v.items) }
 {
     let shape = shape_of(heap, tree)?;
     let mut order = vec![in heap; Line { row: 0, depth: 0 }; shape.len()]?;

@@ -5,7 +5,7 @@ use Rattle.trace.specs.Ranges.{InRange}
 use Rattle.trace.specs.Sources.{Every}
 use Rattle.trace.specs.declared.record.Record.{Record}
 use Rattle.trace.specs.declared.fault.Ending.{Ending}
-use Rattle.trace.specs.declared.fault.Ending.TheVariants.{End as At-end, Broken}
+use Rattle.trace.specs.declared.fault.Ending.TheVariants.{End as AtEnd, Broken}
 use Rattle.rows.specs.declared.rejection.Rejection.{Rejection}
 use Rattle.rows.specs.declared.rejection.Rejection.TheVariants.{OutOfRange, TableSize, TooFewRows, PathTooLong}
 use Rattle.metrics.specs.Measures.{Measure}
@@ -98,7 +98,7 @@ module _ {M : Type 0} (m : Measure M) where
   every_drop (suc n) (x ∷ xs) h = every_drop n xs h.1
 
   ending_accepts : (e : Ending) → stop_at e ≡ Rejected OutOfRange → ⊥
-  ending_accepts At-end h = let z : ◌≡◌ {A = ℕ} 0 1 = cc in omega arith
+  ending_accepts AtEnd h = let z : ◌≡◌ {A = ℕ} 0 1 = cc in omega arith
   ending_accepts (Broken f) h = let z : ◌≡◌ {A = ℕ} 0 1 = cc in omega arith
 
   -- each record of the source is in range

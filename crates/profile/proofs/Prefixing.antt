@@ -2,7 +2,7 @@
 use Rattle.std.proofs.Common.{◌≡◌, ℕ, zero, suc, ◌-◌, ◌<◌, ◌⊎◌, List, [], ◌∷◌, ◌++◌, length, get_or, take, drop, Some, Ok, sym, refl, ap, ◌∙◌, subst, ap₂, inl, inr, ⊎_elim, arith, length-drop}
 use Rattle.trace.specs.declared.record.Record.{Record}
 use Rattle.trace.specs.declared.fault.Ending.{Ending}
-use Rattle.trace.specs.declared.fault.Ending.TheVariants.{End as At-end, Broken}
+use Rattle.trace.specs.declared.fault.Ending.TheVariants.{End as AtEnd, Broken}
 use Rattle.trace.specs.Sources.{at_ending, answered, rest}
 use Rattle.rows.specs.declared.rejection.Rejection.{Rejection}
 use Rattle.profile.specs.declared.reading.Stop.{Stop}
@@ -35,7 +35,7 @@ take_next (suc k) (x ∷ xs) r rs h = let others = take_next k xs r rs h in (ap 
 
 -- ---- what the answers of a source's next say
 not_ended : (e : Ending) (x : Record) → Ok (Some x) ≡ at_ending e → ⊥
-not_ended At-end x h = let z : ◌≡◌ {A = ℕ} 0 1 = cc in omega arith
+not_ended AtEnd x h = let z : ◌≡◌ {A = ℕ} 0 1 = cc in omega arith
 not_ended (Broken f) x h = let z : ◌≡◌ {A = ℕ} 0 1 = cc in omega arith
 
 pub some_next : (xs : List Record) (e : Ending) (r : Record) → Ok (Some r) ≡ answered xs e → xs ≡ r ∷ rest xs

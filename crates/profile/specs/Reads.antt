@@ -2,7 +2,7 @@
 use Rattle.std.specs.Prelude.{◌≡◌, ℕ, ◌<◌, ◌≤◌, List, [], ◌∷◌, ◌++◌, length, take, drop}
 use Rattle.trace.specs.declared.record.Record.{Record}
 use Rattle.trace.specs.declared.fault.Ending.{Ending}
-use Rattle.trace.specs.declared.fault.Ending.TheVariants.{End as At-end, Broken}
+use Rattle.trace.specs.declared.fault.Ending.TheVariants.{End as AtEnd, Broken}
 use Rattle.rows.specs.declared.rejection.Rejection.{Rejection}
 use Rattle.profile.specs.declared.reading.Stop.{Stop}
 use Rattle.profile.specs.declared.reading.Stop.TheVariants.{Limit, End, Faulted, Rejected}
@@ -15,7 +15,7 @@ steps m a [] = a
 steps m a (r ∷ rs) = steps m (step m a r) rs
 
 abbrev pub stop_at : Ending → Stop
-stop_at At-end = End
+stop_at AtEnd = End
 stop_at (Broken f) = Faulted f
 
 -- Why a read-in stopped that added count records and left the summary a, where the source then had rest: the limit was reached; else the

@@ -1,6 +1,6 @@
 -- The children that lead the order from a row's start are the row's children, and their lines are put one after the other.
 use Rattle.std.proofs.Common.{◌≡◌, ℕ, zero, suc, ◌+◌, ◌-◌, ◌<◌, ◌≤◌, eqb, ◌⊎◌, List, [], ◌∷◌, ◌++◌, length, drop, set, sym, refl, ap, ◌∙◌, subst, inl, inr, add-zero, add-one, arith, length-append}
-use Rattle.std.specs.List.{ContainsAt as Has, AllByRecursion as All}
+use Rattle.std.specs.List.{ContainsAt as Has, AllByRecursion}
 use Rattle.std.proofs.lemmas.List.Edits.{sets, sets-eq}
 use Rattle.std.proofs.lemmas.List.{get_or-drop, length-drop, drop_all, at_drop_more}
 use Rattle.std.proofs.lemmas.Bool.{cond-true, cond-false, cond_both, eq-eqb, ne_eqb, eqb-true, cases_lt}
@@ -44,21 +44,21 @@ stretch_drop s order shape a n = record {
 
 -- ---- the children that lead it
 
-led_each : (s : List ShapeRow) (r : ℕ) (es : List Entry) → Stretch s es → All (IsChild s r) (led_by s r es)
+led_each : (s : List ShapeRow) (r : ℕ) (es : List Entry) → Stretch s es → AllByRecursion (IsChild s r) (led_by s r es)
 led_each s r [] t = tt
 led_each s r (e ∷ es) t =
     let w = t.within 0 (omega arith) in
-    cond_both (eqb (parent_at s e.row) r) (e.row ∷ led_by s r es) [] (λ l. All (IsChild s r) l)
+    cond_both (eqb (parent_at s e.row) r) (e.row ∷ led_by s r es) [] (λ l. AllByRecursion (IsChild s r) l)
     (λ q. ((w.0, (w.1, eqb-true (parent_at s e.row) r q)), led_each s r es (rest_of s e es t)))
     (λ _. tt)
 
 pub led_child : (s : List ShapeRow) (order : List Entry) (r at : ℕ) → IsShape s → Arranged s order → (c : ℕ) (cs : List ℕ) → led_by s r (drop at order) ≡ c ∷ cs → IsChild s r c
-led_child s order r at shape a c cs e = (subst (All (IsChild s r)) e (led_each s r (drop at order) (stretch_drop s order shape a at))).0
+led_child s order r at shape a c cs e = (subst (AllByRecursion (IsChild s r)) e (led_each s r (drop at order) (stretch_drop s order shape a at))).0
 
-led_later : (s : List ShapeRow) (r f : ℕ) (es : List Entry) → ((k : ℕ) → k < length es → parent_at s (entry_at es k).row ≡ r → f < function_at s (entry_at es k).row) → All (λ d. f < function_at s d) (led_by s r es)
+led_later : (s : List ShapeRow) (r f : ℕ) (es : List Entry) → ((k : ℕ) → k < length es → parent_at s (entry_at es k).row ≡ r → f < function_at s (entry_at es k).row) → AllByRecursion (λ d. f < function_at s d) (led_by s r es)
 led_later s r f [] h = tt
 led_later s r f (e ∷ es) h =
-    cond_both (eqb (parent_at s e.row) r) (e.row ∷ led_by s r es) [] (λ l. All (λ d. f < function_at s d) l)
+    cond_both (eqb (parent_at s e.row) r) (e.row ∷ led_by s r es) [] (λ l. AllByRecursion (λ d. f < function_at s d) l)
     (λ q. (h 0 (omega arith) (eqb-true (parent_at s e.row) r q), led_later s r f es (λ k l. h (suc k) (omega arith))))
     (λ _. tt)
 

@@ -2,7 +2,7 @@
 use Rattle.std.proofs.Common.{◌≡◌, ℕ, ◌+◌, ◌-◌, ◌<◌, ◌≤◌, false, cond, eqb, ltb, ◌⊎◌, List, [], ◌∷◌, length, Ordering, Less, Equal, Greater, sym, refl, ap, ◌∙◌, subst, inl, inr, arith}
 use Rattle.std.specs.Ordering.{is_lt, ordering_then, nat_cmp}
 use Rattle.std.specs.List.Sorted.{IsPermutation, IsSortedWithin}
-use Rattle.std.specs.List.{swap, ContainsAt as Has, AllByRecursion as All}
+use Rattle.std.specs.List.{swap, ContainsAt as Has, AllByRecursion}
 use Rattle.std.specs.List as holes
 use Rattle.std.proofs.lemmas.List.Edits.{Swapped, swapped_from_swap, length-swap}
 use Rattle.std.proofs.ByRecursion.{All-get_or, All-from_get_or, all_shuffled, has_shuffled}
@@ -117,7 +117,7 @@ has_listed s xs l i h g =
 
 pub arranged : (s : List ShapeRow) (xs ys : List Entry) (m : ℕ) → Listed s xs → IsPermutation xs ys → length ys ≡ m → IsSortedWithin (λ x y. is_lt (compared x y)) ys 0 m → Arranged s ys
 arranged s xs ys m l sh em up =
-    let all : All (Stands s) ys = all_shuffled (Stands s) xs ys sh (All-from_get_or (Stands s) xs no_entry (stands_listed s xs l)) in
+    let all : AllByRecursion (Stands s) ys = all_shuffled (Stands s) xs ys sh (All-from_get_or (Stands s) xs no_entry (stands_listed s xs l)) in
     record {
       long = omega (arith, length_permutation xs ys sh, l.long);
       each = λ k h. (All-get_or (Stands s) ys k no_entry h all).0;

@@ -1,6 +1,6 @@
 -- The outline of a row: the row's line, then the outline of its children by rising function.
 use Rattle.std.specs.Prelude.{◌≡◌, ℕ, ◌+◌, ◌<◌, cond, List, [], ◌∷◌, ◌++◌, length, drop, ◌==◌, slice_set}
-use Rattle.std.specs.List.{ContainsAt as Has, AllByRecursion as All}
+use Rattle.std.specs.List.{ContainsAt as Has, AllByRecursion}
 use Rattle.rows.specs.declared.shape.ShapeRow.{ShapeRow}
 use Rattle.report.specs.declared.order.Entry.{Entry}
 use Rattle.report.specs.declared.outline.Line.{Line}
@@ -15,11 +15,11 @@ IsChild s r i = (0 < i) × ((i < length s) × (parent_at s i ≡ r))
 -- the functions of the rows rise
 abbrev pub Rising : List ShapeRow → List ℕ → Type 0
 Rising s [] = Unit {0}
-Rising s (c ∷ cs) = All (λ d. function_at s c < function_at s d) cs × Rising s cs
+Rising s (c ∷ cs) = AllByRecursion (λ d. function_at s c < function_at s d) cs × Rising s cs
 
 -- the children of row r, all of them, by rising function
 pub record IsChildren (s : List ShapeRow) (r : ℕ) (cs : List ℕ) : Type 0 where
-  pub each : All (IsChild s r) cs
+  pub each : AllByRecursion (IsChild s r) cs
   pub all : (i : ℕ) → IsChild s r i → Has cs i
   pub rising : Rising s cs
 

@@ -1,6 +1,6 @@
 use Rattle.std.proofs.Common.{◌≡◌, ◌<◌, ◌≤◌, ◌++◌, length, take, drop, sym, ◌∙◌, subst, arith}
 use lib.Seq.{take-append-le}
-use Rattle.std.specs.List.{AllByRecursion as All}
+use Rattle.std.specs.List.{AllByRecursion}
 use Rattle.std.proofs.lemmas.List.{take_all}
 use Rattle.report.specs.declared.outline.Line.{Line}
 use Rattle.printing.proofs.Rows.{drawn_below}
@@ -17,4 +17,4 @@ returns-in-Ok c =
     let k = drawn_below s c.as_mut_slice.result.now col c.in-Ok.ensures.answers.0.rooted.some (c.as_mut_slice.ensures.len ∙ lo ∙ sym ls) c.in-Ok.ensures.drawn in
     let l : v.len ≤ length col = omega (arith, k.0, ls, lo) in
     let e : take v.len (col ++ drop (length col) v.items) ≡ col = rw take-append-le (take_all v.len col (omega (arith, k.0, ls, lo))) in
-    (lo, subst (λ ls. All (λ (x : Line). x.row < n) ls) (sym e) (subst (λ i. All (λ (x : Line). x.row < i) col) ls k.1))
+    (lo, subst (λ ls. AllByRecursion (λ (x : Line). x.row < n) ls) (sym e) (subst (λ i. AllByRecursion (λ (x : Line). x.row < i) col) ls k.1))
