@@ -2,26 +2,26 @@
 
 #![tactic(auto)]
 
-use anyhow::anyhow;
 use printing::{Printed, print_trace};
 use std::io::Read;
+use std::process::ExitCode;
 
 // One byte more than a trace may have, so that a longer one is noticed.
 const MOST_READ: u64 = 65_537;
 
-fn main(rt: HostRuntime) -> anyhow::Result<()> {
+fn main(rt: HostRuntime) -> anyhow::Result<ExitCode> {
     let heap = rt.alloc();
     let mut text = Vec::new(heap);
     rt.stdin().take(MOST_READ).read_to_end(&mut text)?;
     match print_trace(heap, &text)? {
         Printed::Page(page) => {
             print!(rt; "{page}")?;
-            Ok(())
+            Ok(ExitCode::SUCCESS)
         }
         // the line is all that a stopped run prints; a script sees the status
         Printed::Stopped(line) => {
             print!(rt; "{line}")?;
-            Err(anyhow!("stopped"))
+            Ok(ExitCode::FAILURE)
         }
     }
 }
