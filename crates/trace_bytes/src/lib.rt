@@ -2,6 +2,7 @@
 
 #![tactic(auto)]
 
+mod kind;
 pub mod number;
 mod record;
 pub mod source;
