@@ -2,7 +2,7 @@
 
 // What kind of record stands in a trace.
 #[derive(Clone, Copy)]
-pub(crate) enum Kind {
+pub enum Kind {
     Call,
     Return,
     Unwind,

@@ -2,7 +2,7 @@
 
 #![tactic(auto)]
 
-mod kind;
+pub mod kind;
 pub mod number;
 mod record;
 pub mod source;
