@@ -2,7 +2,7 @@
 use Rattle.std.proofs.Common.{◌≡◌, ℕ, zero, suc, ◌+◌, ◌-◌, ◌*◌, ◌^◌, ◌<◌, ◌≤◌, List, length, get_or, drop, Ok, Err, Result, sym, refl, ap, ◌∙◌, mul_assoc, mul-le-mul_left, pow-suc, mul-add, arith, lit≤, le-ltb, lt-ltb, le-leb}
 use borrow.Author.Tests.{lt-leb}
 use Rattle.std.proofs.lemmas.List.{drop_all, drop_more}
-use Rattle.trace.specs.Kinds.{and_then}
+use Rattle.trace.specs.Text.{and_then}
 use Rattle.trace.specs.declared.fault.Cause.{Cause}
 use Rattle.trace.specs.declared.fault.Cause.TheVariants.{CutShort, TooLarge}
 use Rattle.trace_bytes.specs.Groups.{groups}

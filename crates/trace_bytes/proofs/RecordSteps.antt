@@ -2,7 +2,7 @@
 use Rattle.std.proofs.Common.{◌≡◌, ℕ, zero, suc, ◌+◌, ◌<◌, List, [], ◌∷◌, length, get_or, drop, Some, Ok, Err, Result, sym, refl, ap, ◌∙◌, subst, arith}
 use Rattle.std.proofs.lemmas.List.{drop-drop, at_drop_more}
 use Rattle.trace.specs.Faults.{fault_at}
-use Rattle.trace.specs.Sources.{Meaning, nothing, at_place}
+use Rattle.trace.specs.Meanings.{Meaning, nothing, found_at}
 use Rattle.trace.specs.declared.fault.Cause.{Cause}
 use Rattle.trace.specs.declared.fault.Fault.{Fault}
 use Rattle.trace.specs.declared.record.Record.{Record}
@@ -23,12 +23,12 @@ pub record_at : (xs : List ℕ) (at : ℕ) → at < length xs → bytes_meaning 
 record_at xs at h = at_drop_more (bytes_meaning at) xs at 0 h
 
 -- the record is at fault
-pub faulted : (x : Result (Record × ℕ) Cause) (p : ℕ) (k : ℕ → Meaning) (m : Meaning) (f : Fault) → m ≡ record_then x p k → Err f ≡ at_place x p → Stepped m m (Err f)
+pub faulted : (x : Result (Record × ℕ) Cause) (p : ℕ) (k : ℕ → Meaning) (m : Meaning) (f : Fault) → m ≡ record_then x p k → Err f ≡ found_at x p → Stepped m m (Err f)
 faulted (Ok v) p k m f e h = absurd (let z : ◌≡◌ {A = ℕ} 0 1 = cc in omega arith)
 faulted (Err c) p k m f e h = let g : f ≡ fault_at c p = cc in at_fault m nothing (Err c) p f e (ap Err g)
 
 -- the record is whole
-pub delivered : (x : Result (Record × ℕ) Cause) (p : ℕ) (k : ℕ → Meaning) (m : Meaning) (r : Record) (n : ℕ) → m ≡ record_then x p k → Ok (r, n) ≡ at_place x p → Stepped m (k n) (Ok (Some r))
+pub delivered : (x : Result (Record × ℕ) Cause) (p : ℕ) (k : ℕ → Meaning) (m : Meaning) (r : Record) (n : ℕ) → m ≡ record_then x p k → Ok (r, n) ≡ found_at x p → Stepped m (k n) (Ok (Some r))
 delivered (Ok v) p k m r n e h =
     let g : (r, n) ≡ v = cc in
     subst (λ w. Stepped m (k w.1) (Ok (Some w.0))) (sym g) (at_record m (k v.1) (Ok v.0) p v.0 e refl)

@@ -1,13 +1,14 @@
 -- The byte format: the record that bytes begin with, and what bytes mean. Assumes nothing.
 use Rattle.std.specs.Prelude.{ℕ, zero, suc, ◌+◌, cond, List, [], ◌∷◌, drop, Ok, Err, Result, ◌==◌}
-use Rattle.trace.specs.Kinds.{and_then, field_count, with_fields, checked}
-use Rattle.trace.specs.Sources.{Meaning, nothing, followed}
+use Rattle.trace.specs.Meanings.{Meaning, nothing, followed}
+use Rattle.trace.specs.Text.{and_then}
 use Rattle.trace.specs.declared.fault.Cause.{Cause}
 use Rattle.trace.specs.declared.fault.Cause.TheVariants.{UnknownKind}
-use Rattle.trace.specs.declared.kind.Kind.{Kind}
-use Rattle.trace.specs.declared.kind.Kind.TheVariants.{Call as IsCall, Return as IsReturn, Unwind as IsUnwind, Sample as IsSample}
 use Rattle.trace.specs.declared.record.Record.{Record}
 use Rattle.trace_bytes.specs.Groups.{numbers}
+use Rattle.trace_bytes.specs.Kinds.{field_count, made}
+use Rattle.trace_bytes.specs.declared.kind.Kind.{Kind}
+use Rattle.trace_bytes.specs.declared.kind.Kind.TheVariants.{Call as IsCall, Return as IsReturn, Unwind as IsUnwind, Sample as IsSample}
 use Rattle.trace_bytes.specs.declared.source.ByteSource.{ByteSource}
 
 -- the kind that a byte tells
@@ -16,7 +17,7 @@ kind_of b = cond (b == 1) (Ok IsCall) (cond (b == 2) (Ok IsReturn) (cond (b == 3
 
 -- The record of a kind whose fields bytes begin with, and how many bytes they took. The ranges come last, so that each other cause goes before.
 abbrev pub fields_record : Kind → List ℕ → Result (Record × ℕ) Cause
-fields_record k bs = and_then (numbers (field_count k) bs) (λ v. and_then (checked (with_fields k v.0)) (λ r. Ok (r, v.1)))
+fields_record k bs = and_then (numbers (field_count k) bs) (λ v. and_then (made k v.0) (λ r. Ok (r, v.1)))
 
 -- A record: the byte of its kind, then its fields. With it, how many bytes the fields took.
 abbrev pub record_of : ℕ → List ℕ → Result (Record × ℕ) Cause

@@ -1,6 +1,6 @@
 -- Numbers in bytes. Assumes nothing.
 use Rattle.std.specs.Prelude.{ℕ, zero, suc, ◌+◌, ◌-◌, ◌*◌, cond, List, [], ◌∷◌, drop, Ok, Err, Result, nat_le, nat_lt}
-use Rattle.trace.specs.Kinds.{and_then, Numbers}
+use Rattle.trace.specs.Text.{and_then, Numbers}
 use Rattle.trace.specs.declared.fault.Cause.{Cause}
 use Rattle.trace.specs.declared.fault.Cause.TheVariants.{CutShort, TooLarge}
 

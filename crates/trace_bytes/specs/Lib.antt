@@ -1,3 +1,4 @@
+pub mod Kinds
 pub mod Groups
 pub mod Bytes
 pub mod BytesRanged

@@ -2,6 +2,7 @@
 
 #![tactic(auto)]
 
+pub mod kind;
 pub mod number;
 mod record;
 pub mod source;

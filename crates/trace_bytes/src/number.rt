@@ -1,6 +1,6 @@
 // Numbers of 32 bits in groups of seven.
 ghost use Rattle.std.specs.Prelude.{◌≡◌, ◌+◌, ◌≤◌, length, drop, IfOk};
-ghost use Rattle.trace.specs.Sources.{at_place};
+ghost use Rattle.trace.specs.Meanings.{found_at};
 ghost use Rattle.trace_bytes.specs.Groups.{number};
 
 use trace::fault::{Cause, Fault};
@@ -16,7 +16,7 @@ const FOLLOWED: u8 = 128;
 
 // The number that begins at `at`, and how many bytes it took. A fault is that of the record at `place`.
 fn read_groups(bytes: &[u8], at: usize, place: usize) -> Result<(u32, usize), Fault>
-    ensures value { result ≡ at_place (number (drop at bytes.now)) place }
+    ensures value { result ≡ found_at (number (drop at bytes.now)) place }
     ensures within { IfOk result (λ v. at + v.1 ≤ length bytes.now) }
 {
     // the value of the groups read so far, and how many values so many groups have
@@ -50,7 +50,7 @@ fn read_groups(bytes: &[u8], at: usize, place: usize) -> Result<(u32, usize), Fa
 // The number that begins at `at`, and how many bytes it took. A fault is that of the record at `place`. Most numbers have one byte, and
 // these are read without a loop.
 pub fn read_number(bytes: &[u8], at: usize, place: usize) -> Result<(u32, usize), Fault>
-    ensures value { result ≡ at_place (number (drop at bytes.now)) place }
+    ensures value { result ≡ found_at (number (drop at bytes.now)) place }
     ensures within { IfOk result (λ v. at + v.1 ≤ length bytes.now) }
 {
     if at < bytes.len() {

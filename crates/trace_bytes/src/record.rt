@@ -1,12 +1,13 @@
 // The record that bytes begin with: a byte that tells its kind, and its fields as numbers.
 ghost use Rattle.std.specs.Prelude.{◌≡◌, ◌+◌, ◌<◌, ◌≤◌, length, drop, IfOk, Ok, slice_index};
-ghost use Rattle.trace.specs.Kinds.{and_then};
-ghost use Rattle.trace.specs.Sources.{at_place};
+ghost use Rattle.trace.specs.Meanings.{found_at};
+ghost use Rattle.trace.specs.Text.{and_then};
 ghost use Rattle.trace_bytes.specs.Bytes.{kind_of, fields_record, record_of};
 
+use crate::kind::Kind;
 use crate::number::read_number;
 use trace::fault::{Cause, Fault, placed};
-use trace::kind::{Kind, call_of, sample_of, unwind_of};
+use trace::line::{call_of, sample_of, unwind_of};
 use trace::record::Record;
 
 // The kind that a byte tells.
@@ -28,7 +29,7 @@ fn sized(
     taken: usize,
     place: usize,
 ) -> Result<(Record, usize), Fault>
-    ensures value { result ≡ at_place (and_then «record» (λ x. Ok (x, taken))) place }
+    ensures value { result ≡ found_at (and_then «record» (λ x. Ok (x, taken))) place }
     ensures size { IfOk result (λ v. v.1 ≡ taken) }
 {
     match record {
@@ -39,7 +40,7 @@ fn sized(
 
 // A call whose field begins at `at`, and how many bytes that took.
 fn read_call(bytes: &[u8], at: usize, place: usize) -> Result<(Record, usize), Fault>
-    ensures value { result ≡ at_place (fields_record Kind.Call (drop at bytes.now)) place }
+    ensures value { result ≡ found_at (fields_record Kind.Call (drop at bytes.now)) place }
     ensures within { IfOk result (λ v. at + v.1 ≤ length bytes.now) }
 {
     let (function, taken) = read_number(bytes, at, place)?;
@@ -48,7 +49,7 @@ fn read_call(bytes: &[u8], at: usize, place: usize) -> Result<(Record, usize), F
 
 // An unwind whose field begins at `at`, and how many bytes that took.
 fn read_unwind(bytes: &[u8], at: usize, place: usize) -> Result<(Record, usize), Fault>
-    ensures value { result ≡ at_place (fields_record Kind.Unwind (drop at bytes.now)) place }
+    ensures value { result ≡ found_at (fields_record Kind.Unwind (drop at bytes.now)) place }
     ensures within { IfOk result (λ v. at + v.1 ≤ length bytes.now) }
 {
     let (count, taken) = read_number(bytes, at, place)?;
@@ -57,7 +58,7 @@ fn read_unwind(bytes: &[u8], at: usize, place: usize) -> Result<(Record, usize),
 
 // A sample whose fields begin at `at`, and how many bytes they took.
 fn read_sample(bytes: &[u8], at: usize, place: usize) -> Result<(Record, usize), Fault>
-    ensures value { result ≡ at_place (fields_record Kind.Sample (drop at bytes.now)) place }
+    ensures value { result ≡ found_at (fields_record Kind.Sample (drop at bytes.now)) place }
     ensures within { IfOk result (λ v. at + v.1 ≤ length bytes.now) }
 {
     let (step, a) = read_number(bytes, at, place)?;
@@ -70,7 +71,7 @@ fn read_sample(bytes: &[u8], at: usize, place: usize) -> Result<(Record, usize),
 // The record that begins at `at`, and how many bytes its fields took. Its kind is looked at first.
 pub(crate) fn read_record(bytes: &[u8], at: usize) -> Result<(Record, usize), Fault>
     requires { at < length bytes.now }
-    ensures value { result ≡ at_place (record_of (slice_index bytes.now at) (drop (at + 1) bytes.now)) at }
+    ensures value { result ≡ found_at (record_of (slice_index bytes.now at) (drop (at + 1) bytes.now)) at }
     ensures within { IfOk result (λ v. at + 1 + v.1 ≤ length bytes.now) }
 {
     match placed(kind_of(bytes[at]), at)? {

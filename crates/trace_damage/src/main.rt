@@ -8,8 +8,8 @@ use std::{fmt, io};
 use trace::fault::{Ending, Fault};
 use trace::record::{Record, Sample};
 use trace::source::Source;
+use trace::text::TextSource;
 use trace_bytes::source::ByteSource;
-use trace_text::source::TextSource;
 
 // A record to a line: every kind, numbers of one byte to five, some with zero groups on top, and the ends of ranges. The last number has
 // five bytes, so that its fifth is also the last byte of all; and where the last step takes a byte more, the weight is 0 and a field is

@@ -1,7 +1,7 @@
 -- The digest of what a trace means: one number, which each field of each record takes part in. Assumes nothing.
 use Rattle.std.specs.Prelude.{List, [], ◌∷◌, ℕ, ◌+◌, ◌*◌, ◌^◌, ◌%◌}
 use Rattle.trace.specs.Faults.{number}
-use Rattle.trace.specs.Sources.{Meaning}
+use Rattle.trace.specs.Meanings.{Meaning}
 use Rattle.trace.specs.declared.fault.Ending.{Ending}
 use Rattle.trace.specs.declared.fault.Ending.TheVariants.{End, Broken}
 use Rattle.trace.specs.declared.fault.Fault.{Fault}

@@ -4,15 +4,15 @@
 #![tactic(auto)]
 
 ghost use Rattle.std.specs.Prelude.{◌≡◌};
+ghost use Rattle.trace.specs.TextMeaning.{text_meaning};
 ghost use Rattle.trace_bytes.specs.Bytes.{bytes_meaning};
-ghost use Rattle.trace_text.specs.Text.{text_meaning};
 ghost use Rattle.trace_export.specs.Digest.{mixed, record_value, faulted, digest_from, digest};
 
 use trace::fault::Fault;
 use trace::record::Record;
 use trace::source::Source;
+use trace::text::TextSource;
 use trace_bytes::source::ByteSource;
-use trace_text::source::TextSource;
 
 // A sum with one more part. What was there is turned by a factor, so that the order of the parts counts.
 fn mixed(sum: u64, part: u64) -> u64

@@ -1,7 +1,7 @@
 -- Where bytes have a fault, what they mean before it, and what they mean with others after them. Assumes nothing.
 use Rattle.std.proofs.Common.{◌≡◌, ℕ, zero, suc, ◌+◌, ◌-◌, ◌<◌, ◌≤◌, List, [], ◌∷◌, ◌++◌, length, take, Ok, Err, Result, sym, refl, ap, ◌∙◌, arith}
 use Rattle.trace.specs.Faults.{fault_at}
-use Rattle.trace.specs.Sources.{Meaning}
+use Rattle.trace.specs.Meanings.{Meaning}
 use Rattle.trace.specs.declared.fault.Cause.{Cause}
 use Rattle.trace.specs.declared.fault.Cause.TheVariants.{CutShort}
 use Rattle.trace.specs.declared.fault.Ending.TheVariants.{End, Broken}

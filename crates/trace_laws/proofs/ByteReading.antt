@@ -1,12 +1,13 @@
 -- Reading takes bytes that are there, depends on no others, and stays as it is where more follow. Assumes nothing.
 use Rattle.std.proofs.Common.{◌≡◌, ℕ, zero, suc, ◌+◌, ◌-◌, ◌*◌, ◌≤◌, Bool, true, false, cond, ltb, leb, List, [], ◌∷◌, ◌++◌, length, take, drop, Ok, Err, Result, sym, refl, ap, ◌∙◌, arith, length-drop}
 use Rattle.std.proofs.lemmas.List.{drop-append-le, drop-take}
-use Rattle.trace.specs.Kinds.{and_then, Numbers, field_count, with_fields, checked}
+use Rattle.trace.specs.Text.{and_then, Numbers}
 use Rattle.trace.specs.declared.fault.Cause.{Cause}
 use Rattle.trace.specs.declared.fault.Cause.TheVariants.{CutShort, TooLarge}
-use Rattle.trace.specs.declared.kind.Kind.{Kind}
 use Rattle.trace_bytes.specs.Bytes.{kind_of, fields_record, record_of}
 use Rattle.trace_bytes.specs.Groups.{groups, number, numbers}
+use Rattle.trace_bytes.specs.Kinds.{field_count, made}
+use Rattle.trace_bytes.specs.declared.kind.Kind.{Kind}
 
 -- What is read of bytes, with how many of them it took.
 abbrev pub Reading : Type 0 → Type 0
@@ -137,25 +138,25 @@ numbers_steady zero = record { there = λ bs v e. omega (arith, taken_is tt 0 v 
 numbers_steady (suc n) = record { there = next_there n (numbers_steady n); front = next_front n (numbers_steady n); longer = next_longer n (numbers_steady n) }
 
 -- what is made of a reading, and may refuse it
-abbrev made : {X Y : Type 0} → (X → Result Y Cause) → Result (X × ℕ) Cause → Result (Y × ℕ) Cause
-made f r = and_then r (λ v. and_then (f v.0) (λ y. Ok (y, v.1)))
+abbrev refined : {X Y : Type 0} → (X → Result Y Cause) → Result (X × ℕ) Cause → Result (Y × ℕ) Cause
+refined f r = and_then r (λ v. and_then (f v.0) (λ y. Ok (y, v.1)))
 
-made_ok : {X Y : Type 0} (f : X → Result Y Cause) (r : Result (X × ℕ) Cause) (v : Y × ℕ) → made f r ≡ Ok v → (w : X × ℕ) × (r ≡ Ok w) × (w.1 ≡ v.1)
-made_ok f r v e =
+refined_ok : {X Y : Type 0} (f : X → Result Y Cause) (r : Result (X × ℕ) Cause) (v : Y × ℕ) → refined f r ≡ Ok v → (w : X × ℕ) × (r ≡ Ok w) × (w.1 ≡ v.1)
+refined_ok f r v e =
     let x = then_ok r (λ w. and_then (f w.0) (λ y. Ok (y, w.1))) v e in
     let y = then_ok (f x.0.0) (λ y. Ok (y, x.0.1)) v x.2 in
     (x.0, x.1, taken_is y.0 x.0.1 v y.2)
 
-made_steady : {X Y : Type 0} (read : Reading X) (f : X → Result Y Cause) → Steady read → Steady (λ bs. made f (read bs))
-made_steady read f s = record {
-  there = λ bs v e. let x = made_ok f (read bs) v e in omega (arith, s.there bs x.0 x.1, x.2);
-  front = λ bs v k e l. let x = made_ok f (read bs) v e in ap (made f) (s.front bs x.0 k x.1 (omega (arith, x.2)) ∙ sym x.1) ∙ e;
-  longer = λ bs more h. ap (made f) (s.longer bs more (λ e. h (ap (made f) e)));
+refined_steady : {X Y : Type 0} (read : Reading X) (f : X → Result Y Cause) → Steady read → Steady (λ bs. refined f (read bs))
+refined_steady read f s = record {
+  there = λ bs v e. let x = refined_ok f (read bs) v e in omega (arith, s.there bs x.0 x.1, x.2);
+  front = λ bs v k e l. let x = refined_ok f (read bs) v e in ap (refined f) (s.front bs x.0 k x.1 (omega (arith, x.2)) ∙ sym x.1) ∙ e;
+  longer = λ bs more h. ap (refined f) (s.longer bs more (λ e. h (ap (refined f) e)));
 }
 
 -- a record
 kind_steady : (r : Result Kind Cause) → Steady (λ bs. and_then r (λ k. fields_record k bs))
-kind_steady (Ok k) = made_steady (numbers (field_count k)) (λ v. checked (with_fields k v)) (numbers_steady (field_count k))
+kind_steady (Ok k) = refined_steady (numbers (field_count k)) (made k) (numbers_steady (field_count k))
 kind_steady (Err c) = record {
   there = λ bs v e. let z : ◌≡◌ {A = ℕ} 0 1 = cc in absurd (omega arith);
   front = λ bs v k e l. let z : ◌≡◌ {A = ℕ} 0 1 = cc in absurd (omega arith);

@@ -1,21 +1,24 @@
 -- Records that are written in bytes and then read are the same records. Assumes nothing.
-use Rattle.std.proofs.Common.{◌≡◌, ℕ, zero, suc, ◌+◌, ◌*◌, ◌/◌, ◌%◌, ◌≤◌, Bool, true, false, cond, ltb, leb, List, [], ◌∷◌, ◌++◌, length, drop, Ok, refl, ap, ◌∙◌, subst, arith}
+use Rattle.std.proofs.Common.{◌≡◌, ℕ, zero, suc, ◌+◌, ◌*◌, ◌/◌, ◌%◌, ◌≤◌, Bool, true, false, cond, ltb, List, [], ◌∷◌, ◌++◌, length, drop, Ok, refl, ap, ◌∙◌, subst, arith}
 use Rattle.std.proofs.lemmas.List.{append_assoc, length-append, drop_at}
-use Rattle.std.proofs.lemmas.Bool.{and_parts, leb-true, ltb-true}
+use Rattle.std.proofs.lemmas.Bool.{ltb-true}
 use Rattle.std.specs.List.{flat_map}
-use Rattle.trace.specs.Kinds.{Numbers, field_count, with_fields}
-use Rattle.trace.specs.Ranges.{from_to, InRange}
-use Rattle.trace.specs.Sources.{Every, Meaning}
-use Rattle.trace.specs.declared.kind.Kind.{Kind}
-use Rattle.trace.specs.declared.kind.Kind.TheVariants.{Call as IsCall, Unwind as IsUnwind, Sample as IsSample}
+use Rattle.trace.specs.Meanings.{Meaning}
+use Rattle.trace.specs.Ranges.{InRange}
+use Rattle.trace.specs.Sources.{Every}
+use Rattle.trace.specs.Text.{Numbers}
 use Rattle.trace.specs.declared.record.Record.{Record}
 use Rattle.trace.specs.declared.record.Record.TheVariants.{Call, Return, Unwind, Sample}
 use Rattle.trace_bytes.specs.Bytes.{fields_record, record_of, record_then, meaning_past}
 use Rattle.trace_bytes.specs.Groups.{number, numbers}
+use Rattle.trace_bytes.specs.Kinds.{field_count, made}
+use Rattle.trace_bytes.specs.declared.kind.Kind.{Kind}
+use Rattle.trace_bytes.specs.declared.kind.Kind.TheVariants.{Call as IsCall, Unwind as IsUnwind, Sample as IsSample}
+use Rattle.trace_laws.proofs.Made.{Fits, sample_made, fields_fit}
 use Rattle.trace_laws.proofs.Spellings.{most, spellings_read}
 use Rattle.trace_laws.specs.ByteLaws.{BytesReadBack}
 use Rattle.trace_laws.specs.Spelling.{Spells, last, lower}
-use Rattle.trace_laws.specs.Writing.{fields_of, kind_byte, spelled_in, spelled, bytes_of, whole}
+use Rattle.trace_laws.specs.Writing.{FitsTypes, fields_of, kind_byte, spelled_in, spelled, bytes_of, whole}
 
 -- a number as it is written is a spelling of it
 step_spells : (t : Bool) (n : ℕ) (bs : List ℕ) → ltb n 128 ≡ t → Spells bs (n / 128) → Spells (cond t (n ∷ []) ((128 + n % 128) ∷ bs)) n
@@ -47,36 +50,22 @@ all_of [] = tt
 all_of (n ∷ ns) = (n, all_of ns)
 
 -- numbers that are written are read
-numbers_spelled : (ns more : List ℕ) → Every (λ n. n ≤ 4294967295) ns → numbers (length ns) (flat_map spelled ns ++ more) ≡ Ok (all_of ns, length (flat_map spelled ns))
+numbers_spelled : (ns more : List ℕ) → Every Fits ns → numbers (length ns) (flat_map spelled ns ++ more) ≡ Ok (all_of ns, length (flat_map spelled ns))
 numbers_spelled [] more h = refl
 numbers_spelled (n ∷ ns) more h =
     let others : List ℕ = flat_map spelled ns in
     let past : drop (length (spelled n)) (spelled n ++ (others ++ more)) ≡ others ++ more = drop_at (spelled n) (others ++ more) (length (spelled n)) refl in
     rw (append_assoc (spelled n) others more, number_spelled n (others ++ more) h.0, past, numbers_spelled ns more h.1, length-append (spelled n) others)
 
--- each field of a record in range is a number that 32 bits hold
-at_most : (low high n : ℕ) → from_to low high n ≡ true → n ≤ high
-at_most low high n h = leb-true n high (and_parts (leb low n) (leb n high) h).1
-
-fields_small : (r : Record) → InRange r → Every (λ n. n ≤ 4294967295) (fields_of r)
-fields_small (Call f) h = (omega (arith, at_most 1 65535 f h), tt)
-fields_small Return h = tt
-fields_small (Unwind n) h = (omega (arith, at_most 1 4095 n h), tt)
-fields_small (Sample s) h =
-    let a = and_parts (from_to 0 4294967295 s.step) _ h in
-    let b = and_parts (from_to 1 4294967295 s.weight) _ a.1 in
-    let c = and_parts (from_to 0 65535 s.site) (from_to 0 63 s.region) b.1 in
-    (at_most 0 4294967295 s.step a.0, (at_most 1 4294967295 s.weight b.0, (omega (arith, at_most 0 65535 s.site c.0), (omega (arith, at_most 0 63 s.region c.1), tt))))
-
 -- a record that is written is read
-fields_read : (k : Kind) (bs : List ℕ) (v : Numbers (field_count k)) (n : ℕ) → numbers (field_count k) bs ≡ Ok (v, n) → InRange (with_fields k v) → fields_record k bs ≡ Ok (with_fields k v, n)
-fields_read k bs v n e h = rw (e, h)
+fields_read : (k : Kind) (bs : List ℕ) (v : Numbers (field_count k)) (n : ℕ) (r : Record) → numbers (field_count k) bs ≡ Ok (v, n) → made k v ≡ Ok r → fields_record k bs ≡ Ok (r, n)
+fields_read k bs v n r e h = rw (e, h)
 
-record_read : (r : Record) (more : List ℕ) → InRange r → record_of (kind_byte r) (flat_map spelled (fields_of r) ++ more) ≡ Ok (r, length (flat_map spelled (fields_of r)))
-record_read (Call f) more h = fields_read IsCall (flat_map spelled (f ∷ []) ++ more) (all_of (f ∷ [])) (length (flat_map spelled (f ∷ []))) (numbers_spelled (f ∷ []) more (fields_small (Call f) h)) h
-record_read Return more h = refl
-record_read (Unwind n) more h = fields_read IsUnwind (flat_map spelled (n ∷ []) ++ more) (all_of (n ∷ [])) (length (flat_map spelled (n ∷ []))) (numbers_spelled (n ∷ []) more (fields_small (Unwind n) h)) h
-record_read (Sample s) more h = fields_read IsSample (flat_map spelled (fields_of (Sample s)) ++ more) (all_of (fields_of (Sample s))) (length (flat_map spelled (fields_of (Sample s)))) (numbers_spelled (fields_of (Sample s)) more (fields_small (Sample s) h)) h
+record_read : (r : Record) (more : List ℕ) → InRange r → FitsTypes r → record_of (kind_byte r) (flat_map spelled (fields_of r) ++ more) ≡ Ok (r, length (flat_map spelled (fields_of r)))
+record_read (Call f) more h fit = fields_read IsCall (flat_map spelled (f ∷ []) ++ more) (all_of (f ∷ [])) (length (flat_map spelled (f ∷ []))) (Call f) (numbers_spelled (f ∷ []) more (fields_fit (Call f) h fit)) (rw h)
+record_read Return more h fit = refl
+record_read (Unwind n) more h fit = fields_read IsUnwind (flat_map spelled (n ∷ []) ++ more) (all_of (n ∷ [])) (length (flat_map spelled (n ∷ []))) (Unwind n) (numbers_spelled (n ∷ []) more (fields_fit (Unwind n) h fit)) (rw h)
+record_read (Sample s) more h fit = fields_read IsSample (flat_map spelled (fields_of (Sample s)) ++ more) (all_of (fields_of (Sample s))) (length (flat_map spelled (fields_of (Sample s)))) (Sample s) (numbers_spelled (fields_of (Sample s)) more (fields_fit (Sample s) h fit)) (sample_made s h fit)
 
 -- past the bytes of a record, what follows means the same at each place
 past_all : (bs more : List ℕ) (m : Meaning) → ((p : ℕ) → meaning_past 0 p more ≡ m) → (p : ℕ) → meaning_past (length bs) p (bs ++ more) ≡ m
@@ -84,12 +73,12 @@ past_all [] more m h p = h p
 past_all (b ∷ bs) more m h p = past_all bs more m h (p + 1)
 
 -- records that are written are read
-records_read : (rs : List Record) → Every InRange rs → (p : ℕ) → meaning_past 0 p (bytes_of rs) ≡ whole rs
-records_read [] h p = refl
-records_read (r ∷ rs) h p =
+records_read : (rs : List Record) → Every InRange rs → Every FitsTypes rs → (p : ℕ) → meaning_past 0 p (bytes_of rs) ≡ whole rs
+records_read [] h fit p = refl
+records_read (r ∷ rs) h fit p =
     let fields : List ℕ = flat_map spelled (fields_of r) in
-    let first : record_of (kind_byte r) (fields ++ bytes_of rs) ≡ Ok (r, length fields) = record_read r (bytes_of rs) h.0 in
-    ap (λ x. record_then x p (λ n. meaning_past n (p + 1) (fields ++ bytes_of rs))) first ∙ ap (λ m. record_then (Ok (r, length fields)) p (λ n. m)) (past_all fields (bytes_of rs) (whole rs) (records_read rs h.1) (p + 1))
+    let first : record_of (kind_byte r) (fields ++ bytes_of rs) ≡ Ok (r, length fields) = record_read r (bytes_of rs) h.0 fit.0 in
+    ap (λ x. record_then x p (λ n. meaning_past n (p + 1) (fields ++ bytes_of rs))) first ∙ ap (λ m. record_then (Ok (r, length fields)) p (λ n. m)) (past_all fields (bytes_of rs) (whole rs) (records_read rs h.1 fit.1) (p + 1))
 
 pub bytes_read_back : BytesReadBack
-bytes_read_back rs h = records_read rs h 0
+bytes_read_back rs h fit = records_read rs h fit 0

@@ -1,7 +1,7 @@
 -- The pieces of bytes that separators join. Assumes nothing.
 use Rattle.std.proofs.Common.{◌≡◌, ℕ, suc, ◌+◌, ◌<◌, Bool, true, false, cond, not, ◌&&◌, eqb, List, [], ◌∷◌, ◌++◌, length, refl, ap, ◌∙◌, arith}
 use Rattle.std.proofs.lemmas.Bool.{eq-eqb, eqb-true, and_parts, not-true}
-use Rattle.trace_text.specs.Pieces.{onto, pieces}
+use Rattle.trace.specs.Pieces.{onto, pieces}
 
 -- there is always a piece
 onto_some : (b : ℕ) (ps : List (List ℕ)) → 0 < length (onto b ps)

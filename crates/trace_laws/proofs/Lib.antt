@@ -1,9 +1,12 @@
+pub mod Made
 pub mod Spellings
 pub mod ByteReading
 pub mod ByteFaults
 pub mod ByteWriting
 pub mod Joining
+pub mod ByLines
 pub mod TextFaults
 pub mod TextBefore
 pub mod TextWriting
+pub mod TextMeant
 pub mod TableReading

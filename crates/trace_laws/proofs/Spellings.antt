@@ -1,8 +1,8 @@
 -- A number is read where bytes spell it, and nowhere else. Assumes nothing.
 use Rattle.std.proofs.Common.{◌≡◌, ℕ, zero, suc, ◌+◌, ◌-◌, ◌*◌, ◌<◌, ◌≤◌, Bool, true, false, cond, ltb, leb, List, [], ◌∷◌, ◌++◌, length, take, Ok, Err, Result, refl, subst, add-one, arith}
 use Rattle.std.proofs.lemmas.Bool.{ltb-true, ltb-false, leb-true, lt-ltb, le-ltb, le-leb}
-use Rattle.trace.specs.Kinds.{and_then}
 use Rattle.trace.specs.Sources.{Every}
+use Rattle.trace.specs.Text.{and_then}
 use Rattle.trace.specs.declared.fault.Cause.{Cause}
 use Rattle.trace.specs.declared.fault.Cause.TheVariants.{TooLarge}
 use Rattle.trace_bytes.specs.Groups.{groups}

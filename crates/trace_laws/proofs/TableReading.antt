@@ -1,8 +1,9 @@
 -- What a table delivers, and where its fault stands. Assumes nothing.
 use Rattle.std.proofs.Common.{◌≡◌, ℕ, suc, ◌+◌, ◌-◌, ◌<◌, ◌≤◌, Bool, true, false, cond, List, [], ◌∷◌, ◌++◌, length, take, Ok, Err, sym, refl, ap, ◌∙◌, subst, arith}
 use Rattle.trace.specs.Faults.{fault_at}
+use Rattle.trace.specs.Meanings.{Meaning, followed}
 use Rattle.trace.specs.Ranges.{in_range, InRange}
-use Rattle.trace.specs.Sources.{Every, Meaning, followed}
+use Rattle.trace.specs.Sources.{Every}
 use Rattle.trace.specs.Tables.{table_meaning, table_ranged}
 use Rattle.trace.specs.declared.fault.Cause.TheVariants.{OutOfRange}
 use Rattle.trace.specs.declared.fault.Ending.TheVariants.{Broken}

@@ -1,15 +1,15 @@
 -- What a text means before the line of its fault. Assumes nothing.
 use Rattle.std.proofs.Common.{◌≡◌, ℕ, suc, ◌+◌, ◌-◌, ◌≤◌, true, ◌⊎◌, List, [], ◌∷◌, ◌++◌, length, take, Ok, Err, Result, sym, refl, ap, ◌∙◌, inl, inr, arith}
 use Rattle.std.proofs.lemmas.List.{take_all}
-use Rattle.trace.specs.Sources.{Meaning, followed}
+use Rattle.trace.specs.Meanings.{Meaning, followed}
+use Rattle.trace.specs.Text.{line_record, lines}
 use Rattle.trace.specs.declared.fault.Cause.{Cause}
 use Rattle.trace.specs.declared.fault.Ending.TheVariants.{Broken}
 use Rattle.trace.specs.declared.fault.Fault.{Fault}
 use Rattle.trace.specs.declared.record.Record.{Record}
-use Rattle.trace_text.specs.Text.{line_record, lines, lines_meaning, text_meaning}
+use Rattle.trace_laws.proofs.ByLines.{lines_meaning, by_lines}
 use Rattle.trace_laws.proofs.Joining.{lacks, pieces_lacking, pieces_line, Cut, last, then, cut}
 use Rattle.trace_laws.proofs.TextFaults.{no_fault, fault_above}
-use Rattle.trace_laws.specs.TextLaws.{TextBefore}
 use Rattle.trace_laws.specs.Writing.{whole}
 
 -- The fault is that of what is read first, before which nothing is; or it is in what follows, which lies at place q or above.
@@ -39,22 +39,22 @@ take_past n [] more = let e : 0 + 1 + n ≡ suc n = omega arith in rw e
 take_past n (b ∷ l) more = let e : suc (length l) + 1 + n ≡ suc (length l + 1 + n) = omega arith in rw (e, take_past n l more)
 
 -- nothing is before a line at fault
-none_before : (p : ℕ) (text : List ℕ) (f : Fault) → f.place ≡ p → (text_meaning p text).records ≡ [] → text_meaning p (take (f.place - p) text) ≡ whole (text_meaning p text).records
+none_before : (p : ℕ) (text : List ℕ) (f : Fault) → f.place ≡ p → (by_lines p text).records ≡ [] → by_lines p (take (f.place - p) text) ≡ whole (by_lines p text).records
 none_before p text f at none = let e : f.place - p ≡ 0 = omega arith in rw (e, none)
 
 -- the text before the line at fault, from the first line on
-last_before : (p : ℕ) (l : List ℕ) (f : Fault) → Before p (p + length l + 1) (text_meaning p l) (text_meaning p l) f → text_meaning p (take (f.place - p) l) ≡ whole (text_meaning p l).records
+last_before : (p : ℕ) (l : List ℕ) (f : Fault) → Before p (p + length l + 1) (by_lines p l) (by_lines p l) f → by_lines p (take (f.place - p) l) ≡ whole (by_lines p l).records
 last_before p l f (inl x) = none_before p l f x.0 x.1
 last_before p l f (inr x) = rw (take_all (f.place - p) l (omega arith)) x.1
 
-then_before : (p : ℕ) (l more : List ℕ) (f : Fault) → lacks 10 l ≡ true → Before p (p + length l + 1) (text_meaning p (l ++ (10 ∷ more))) (lines_meaning p (l ∷ lines (take (f.place - (p + length l + 1)) more))) f → text_meaning p (take (f.place - p) (l ++ (10 ∷ more))) ≡ whole (text_meaning p (l ++ (10 ∷ more))).records
+then_before : (p : ℕ) (l more : List ℕ) (f : Fault) → lacks 10 l ≡ true → Before p (p + length l + 1) (by_lines p (l ++ (10 ∷ more))) (lines_meaning p (l ∷ lines (take (f.place - (p + length l + 1)) more))) f → by_lines p (take (f.place - p) (l ++ (10 ∷ more))) ≡ whole (by_lines p (l ++ (10 ∷ more))).records
 then_before p l more f lack (inl x) = none_before p (l ++ (10 ∷ more)) f x.0 x.1
 then_before p l more f lack (inr x) =
     let n = f.place - (p + length l + 1) in
     let e : f.place - p ≡ length l + 1 + n = omega arith in
     rw (e, take_past n l more, pieces_line 10 l (take n more) lack) x.1
 
-pub before_cut : (p : ℕ) (text : List ℕ) (f : Fault) → Cut 10 text → (text_meaning p text).ending ≡ Broken f → text_meaning p (take (f.place - p) text) ≡ whole (text_meaning p text).records
+pub before_cut : (p : ℕ) (text : List ℕ) (f : Fault) → Cut 10 text → (by_lines p text).ending ≡ Broken f → by_lines p (take (f.place - p) text) ≡ whole (by_lines p text).records
 before_cut p text f (last l lack) h =
     let q = p + length l + 1 in
     let e = pieces_lacking 10 l lack in
@@ -64,5 +64,5 @@ before_cut p text f (then l more lack c) h =
     let e = pieces_line 10 l more lack in
     then_before p l more f lack (rw e (line_before p q l (lines more) (lines (take (f.place - q) more)) f refl (before_cut q more f c) (rw e at h)))
 
-pub text_before : TextBefore
-text_before text f h = let e : f.place - 0 ≡ f.place = omega arith in rw e at (before_cut 0 text f (cut 10 text) h)
+pub by_lines_before : (text : List ℕ) (f : Fault) → (by_lines 0 text).ending ≡ Broken f → by_lines 0 (take f.place text) ≡ whole (by_lines 0 text).records
+by_lines_before text f h = let e : f.place - 0 ≡ f.place = omega arith in rw e at (before_cut 0 text f (cut 10 text) h)

@@ -1,14 +1,14 @@
 -- Where the fault of a text lies, and what its records depend on. Assumes nothing.
 use Rattle.std.proofs.Common.{◌≡◌, ℕ, ◌+◌, ◌<◌, ◌≤◌, ◌⊎◌, List, [], ◌∷◌, ◌++◌, length, Ok, Err, Result, sym, refl, ap, ◌∙◌, inl, inr, arith}
-use Rattle.trace.specs.Sources.{Meaning, followed}
+use Rattle.trace.specs.Meanings.{Meaning, followed}
+use Rattle.trace.specs.Text.{line_record, lines}
 use Rattle.trace.specs.declared.fault.Cause.{Cause}
 use Rattle.trace.specs.declared.fault.Ending.{Ending}
 use Rattle.trace.specs.declared.fault.Ending.TheVariants.{End, Broken}
 use Rattle.trace.specs.declared.fault.Fault.{Fault}
 use Rattle.trace.specs.declared.record.Record.{Record}
-use Rattle.trace_text.specs.Text.{line_record, lines, lines_meaning, text_meaning}
+use Rattle.trace_laws.proofs.ByLines.{lines_meaning, by_lines}
 use Rattle.trace_laws.proofs.Joining.{pieces_append, size, size_pieces}
-use Rattle.trace_laws.specs.TextLaws.{TextWithin, TextAfter, TextEnded}
 
 -- an end is no fault
 pub no_fault : {X : Type 0} (f : Fault) → End ≡ Broken f → X
@@ -33,8 +33,8 @@ fault_below p ([] ∷ ls) f h = omega (arith, fault_below (p + 1) ls f h)
 fault_below p ((b ∷ bs) ∷ ls) f h =
     elim (fault_of (line_record (b ∷ bs)) p (lines_meaning (p + length (b ∷ bs) + 1) ls) f h) [ inl e ↦ omega arith | inr e ↦ omega (arith, fault_below (p + length (b ∷ bs) + 1) ls f e) ]
 
-pub text_within : TextWithin
-text_within text f h = omega (arith, fault_below 0 (lines text) f h, size_pieces 10 text)
+pub by_lines_within : (text : List ℕ) (f : Fault) → (by_lines 0 text).ending ≡ Broken f → f.place < length text
+by_lines_within text f h = omega (arith, fault_below 0 (lines text) f h, size_pieces 10 text)
 
 -- lines after a fault change nothing
 followed_same : (r : Result Record Cause) (p : ℕ) (m n : Meaning) (f : Fault) → (m.ending ≡ Broken f → n ≡ m) → (followed r p m).ending ≡ Broken f → followed r p n ≡ followed r p m
@@ -62,15 +62,15 @@ lines_ended p ((b ∷ bs) ∷ ls) more h =
     let e = ends_at (q + size ls) (p + size ((b ∷ bs) ∷ ls)) more (omega arith) in
     followed_ends (line_record (b ∷ bs)) p (lines_meaning q ls) (lines_meaning q (ls ++ more)) (lines_meaning (p + size ((b ∷ bs) ∷ ls)) more).ending (λ h. lines_ended q ls more h ∙ e) h
 
-pub text_ended : TextEnded
-text_ended text more f h = rw (pieces_append 10 text more) (lines_broken 0 (lines text) (lines more) f h)
+pub by_lines_ended : (text more : List ℕ) (f : Fault) → (by_lines 0 text).ending ≡ Broken f → by_lines 0 (text ++ (10 ∷ more)) ≡ by_lines 0 text
+by_lines_ended text more f h = rw (pieces_append 10 text more) (lines_broken 0 (lines text) (lines more) f h)
 
 -- By whether the front has a fault: without one, the fault would lie past the front.
-after_if : (e : Ending) (front more others : List ℕ) (f : Fault) → (text_meaning 0 front).ending ≡ e → (text_meaning 0 (front ++ (10 ∷ more))).ending ≡ Broken f → f.place ≤ length front → text_meaning 0 (front ++ (10 ∷ others)) ≡ text_meaning 0 (front ++ (10 ∷ more))
+after_if : (e : Ending) (front more others : List ℕ) (f : Fault) → (by_lines 0 front).ending ≡ e → (by_lines 0 (front ++ (10 ∷ more))).ending ≡ Broken f → f.place ≤ length front → by_lines 0 (front ++ (10 ∷ others)) ≡ by_lines 0 (front ++ (10 ∷ more))
 after_if End front more others f is h within =
     let e : (lines_meaning (0 + size (lines front)) (lines more)).ending ≡ Broken f = sym (lines_ended 0 (lines front) (lines more) is) ∙ (rw (pieces_append 10 front more) at h) in
     absurd (omega (arith, fault_above (0 + size (lines front)) (lines more) f e, size_pieces 10 front))
-after_if (Broken g) front more others f is h within = text_ended front others g is ∙ sym (text_ended front more g is)
+after_if (Broken g) front more others f is h within = by_lines_ended front others g is ∙ sym (by_lines_ended front more g is)
 
-pub text_after : TextAfter
-text_after front more others f h within = after_if (text_meaning 0 front).ending front more others f refl h within
+pub by_lines_after : (front more others : List ℕ) (f : Fault) → (by_lines 0 (front ++ (10 ∷ more))).ending ≡ Broken f → f.place ≤ length front → by_lines 0 (front ++ (10 ∷ others)) ≡ by_lines 0 (front ++ (10 ∷ more))
+by_lines_after front more others f h within = after_if (by_lines 0 front).ending front more others f refl h within

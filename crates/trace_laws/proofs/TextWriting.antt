@@ -1,28 +1,24 @@
 -- Records that are written as text and read again are the same. Assumes nothing.
-use Rattle.std.proofs.Common.{◌≡◌, ℕ, ◌+◌, ◌<◌, ◌≤◌, true, not, ◌&&◌, eqb, leb, List, [], ◌∷◌, ◌++◌, map, length, Ok, decimal, Result, refl, ap, ◌∙◌, append_assoc, append-nil, arith, rules}
+use Rattle.std.proofs.Common.{◌≡◌, ℕ, ◌+◌, ◌<◌, ◌≤◌, true, not, eqb, leb, List, [], ◌∷◌, ◌++◌, map, length, Ok, decimal, Result, refl, ap, ◌∙◌, append_assoc, append-nil, arith, rules}
 use Rattle.std.proofs.lemmas.Fmt.{digits_decimal, digits_value-decimal, length-decimal-le, decimal_nonempty}
 use Rattle.std.proofs.lemmas.Str.Parse.{IsNumeralModel, numerals_by_fold}
 use Rattle.std.proofs.lemmas.Bool.{ne_eqb, le-leb, leb-true, and_parts, and_from, not_from_false}
 use Rattle.std.specs.List.{flat_map}
-use Rattle.trace.specs.Kinds.{and_then}
-use Rattle.trace.specs.Ranges.{from_to, sample_in_range, InRange}
+use Rattle.trace.specs.Ranges.{from_to, InRange}
 use Rattle.trace.specs.Sources.{Every, rest}
+use Rattle.trace.specs.Text.{and_then, value_after, number_of, field, record_of, first_kind, line_record, lines}
+use Rattle.trace.specs.Words.{words, all_digits, is_digits}
 use Rattle.trace.specs.declared.fault.Cause.{Cause}
 use Rattle.trace.specs.declared.record.Record.{Record}
 use Rattle.trace.specs.declared.record.Record.TheVariants.{Call, Return, Unwind, Sample}
-use Rattle.trace_text.specs.Text.{value_after, number_of, field, record_of, first_kind, line_record, lines, lines_meaning, text_meaning}
-use Rattle.trace_text.specs.Words.{words, all_digits, is_digits}
+use Rattle.trace_laws.proofs.ByLines.{lines_meaning, by_lines}
 use Rattle.trace_laws.proofs.Joining.{lacks, pieces_lacking, pieces_line}
-use Rattle.trace_laws.specs.TextLaws.{TextReadBack}
-use Rattle.trace_laws.specs.Writing.{fields_of, word_of, line_of, text_of, whole}
+use Rattle.trace_laws.proofs.Made.{Fits, sample_made, fields_fit}
+use Rattle.trace_laws.specs.Writing.{FitsTypes, fields_of, word_of, line_of, text_of, whole}
 
 -- the digits that are read are those that decimals are written in
 numerals : IsNumeralModel (λ ds. all_digits ds ≡ true) (value_after 0)
 numerals = numerals_by_fold _ (search rules) value_after (search rules)
-
--- a number fits 32 bits
-abbrev Fits : ℕ → Type 0
-Fits n = n ≤ 4294967295
 
 decimal_digits : (n : ℕ) → Fits n → all_digits (decimal n) ≡ true
 decimal_digits n h = digits_decimal numerals n (omega arith)
@@ -74,32 +70,15 @@ spaced_lacks : (ns : List ℕ) → Every Fits ns → lacks 10 (spaced ns) ≡ tr
 spaced_lacks [] h = refl
 spaced_lacks (n ∷ ns) h = lacks_append 10 (decimal n) (spaced ns) (decimal_lacks 10 n (omega arith) h.0) (spaced_lacks ns h.1)
 
--- the fields of a record in range fit
-range_fits : (low high n : ℕ) → Fits high → from_to low high n ≡ true → Fits n
-range_fits low high n fit h = omega (arith, leb-true n high (and_parts (leb low n) (leb n high) h).1)
-
-sample_fits : (step weight site region : ℕ) → sample_in_range (record { step = step; weight = weight; site = site; region = region }) ≡ true → Every Fits (step ∷ (weight ∷ (site ∷ (region ∷ []))))
-sample_fits step weight site region h =
-    let p = and_parts (from_to 0 4294967295 step) (from_to 1 4294967295 weight && (from_to 0 65535 site && from_to 0 63 region)) h in
-    let q = and_parts (from_to 1 4294967295 weight) (from_to 0 65535 site && from_to 0 63 region) p.1 in
-    let r = and_parts (from_to 0 65535 site) (from_to 0 63 region) q.1 in
-    (range_fits 0 4294967295 step (omega arith) p.0, (range_fits 1 4294967295 weight (omega arith) q.0, (range_fits 0 65535 site (omega arith) r.0, (range_fits 0 63 region (omega arith) r.1, tt))))
-
-pub fields_fit : (r : Record) → InRange r → Every Fits (fields_of r)
-fields_fit (Call f) h = (range_fits 1 65535 f (omega arith) h, tt)
-fields_fit Return h = tt
-fields_fit (Unwind n) h = (range_fits 1 4095 n (omega arith) h, tt)
-fields_fit (Sample s) h = sample_fits s.step s.weight s.site s.region h
-
 -- the words of a record are read as that record
 abbrev words_record : List (List ℕ) → Result Record Cause
 words_record ws = and_then (first_kind ws) (λ k. record_of k (rest ws))
 
-record_read : (r : Record) → InRange r → Every Fits (fields_of r) → words_record (word_of r ∷ map decimal (fields_of r)) ≡ Ok r
-record_read (Call f) h fit = rw (field_read f fit.0, h)
-record_read Return h fit = refl
-record_read (Unwind n) h fit = rw (field_read n fit.0, h)
-record_read (Sample s) h fit = rw (field_read s.step fit.0, field_read s.weight fit.1.0, field_read s.site fit.1.1.0, field_read s.region fit.1.1.1.0, h)
+record_read : (r : Record) → InRange r → FitsTypes r → Every Fits (fields_of r) → words_record (word_of r ∷ map decimal (fields_of r)) ≡ Ok r
+record_read (Call f) h small fit = rw (field_read f fit.0, h)
+record_read Return h small fit = refl
+record_read (Unwind n) h small fit = rw (field_read n fit.0, h)
+record_read (Sample s) h small fit = rw (field_read s.step fit.0, field_read s.weight fit.1.0, field_read s.site fit.1.1.0, field_read s.region fit.1.1.1.0) (sample_made s h small)
 
 -- a record's line without its end
 abbrev unended : Record → List ℕ
@@ -127,10 +106,10 @@ unended_some (Unwind n) = omega arith
 unended_some (Sample s) = omega arith
 
 -- it is read as the record
-pub line_read : (r : Record) → InRange r → line_record (unended r) ≡ Ok r
-line_read r h =
-    let fit = fields_fit r h in
-    ap words_record (words_written (word_of r) (fields_of r) (word_lacks_space r) fit) ∙ record_read r h fit
+pub line_read : (r : Record) → InRange r → FitsTypes r → line_record (unended r) ≡ Ok r
+line_read r h small =
+    let fit = fields_fit r h small in
+    ap words_record (words_written (word_of r) (fields_of r) (word_lacks_space r) fit) ∙ record_read r h small fit
 
 -- a line that is read as a record, before lines that are read as others
 line_whole : (p : ℕ) (l : List ℕ) (ls : List (List ℕ)) (r : Record) (rs : List Record) → 0 < length l → line_record l ≡ Ok r → ((q : ℕ) → lines_meaning q ls ≡ whole rs) → lines_meaning p (l ∷ ls) ≡ whole (r ∷ rs)
@@ -140,13 +119,13 @@ line_whole p (b ∷ bs) ls r rs some e same = rw (e, same (p + length (b ∷ bs)
 line_then : (r : Record) (more : List ℕ) → line_of r ++ more ≡ unended r ++ (10 ∷ more)
 line_then r more = simp append_assoc
 
-lines_written : (r : Record) (more : List ℕ) → InRange r → lines (line_of r ++ more) ≡ unended r ∷ lines more
-lines_written r more h = ap lines (line_then r more) ∙ pieces_line 10 (unended r) more (unended_lacks r (fields_fit r h))
+lines_written : (r : Record) (more : List ℕ) → InRange r → FitsTypes r → lines (line_of r ++ more) ≡ unended r ∷ lines more
+lines_written r more h small = ap lines (line_then r more) ∙ pieces_line 10 (unended r) more (unended_lacks r (fields_fit r h small))
 
 -- at whatever place the text begins
-pub read_back_at : (p : ℕ) (rs : List Record) → Every InRange rs → text_meaning p (text_of rs) ≡ whole rs
-read_back_at p [] h = refl
-read_back_at p (r ∷ rs) h = rw (lines_written r (text_of rs) h.0) (line_whole p (unended r) (lines (text_of rs)) r rs (unended_some r) (line_read r h.0) (λ q. read_back_at q rs h.1))
+pub read_back_at : (p : ℕ) (rs : List Record) → Every InRange rs → Every FitsTypes rs → by_lines p (text_of rs) ≡ whole rs
+read_back_at p [] h small = refl
+read_back_at p (r ∷ rs) h small = rw (lines_written r (text_of rs) h.0 small.0) (line_whole p (unended r) (lines (text_of rs)) r rs (unended_some r) (line_read r h.0 small.0) (λ q. read_back_at q rs h.1 small.1))
 
-pub text_read_back : TextReadBack
-text_read_back rs h = read_back_at 0 rs h
+pub by_lines_read_back : (rs : List Record) → Every InRange rs → Every FitsTypes rs → by_lines 0 (text_of rs) ≡ whole rs
+by_lines_read_back rs h small = read_back_at 0 rs h small

@@ -7,11 +7,11 @@ use Rattle.trace.specs.declared.fault.Ending.TheVariants.{Broken}
 use Rattle.trace.specs.declared.fault.Fault.{Fault}
 use Rattle.trace.specs.declared.record.Record.{Record}
 use Rattle.trace_bytes.specs.Bytes.{bytes_meaning}
-use Rattle.trace_laws.specs.Writing.{bytes_of, whole}
+use Rattle.trace_laws.specs.Writing.{FitsTypes, bytes_of, whole}
 
--- Records in range that are written and then read are the same records, and then the end.
+-- Records in range, with fields that their types hold, that are written and then read are the same records, and then the end.
 abbrev pub BytesReadBack : Type 0
-BytesReadBack = (rs : List Record) → Every InRange rs → bytes_meaning 0 (bytes_of rs) ≡ whole rs
+BytesReadBack = (rs : List Record) → Every InRange rs → Every FitsTypes rs → bytes_meaning 0 (bytes_of rs) ≡ whole rs
 
 -- The place of a fault lies within the input.
 abbrev pub BytesWithin : Type 0

@@ -2,15 +2,15 @@
 use Rattle.std.specs.Prelude.{◌≡◌, ℕ, ◌<◌, ◌≤◌, List, ◌∷◌, ◌++◌, length, take}
 use Rattle.trace.specs.Ranges.{InRange}
 use Rattle.trace.specs.Sources.{Every}
+use Rattle.trace.specs.TextMeaning.{text_meaning}
 use Rattle.trace.specs.declared.fault.Ending.TheVariants.{Broken}
 use Rattle.trace.specs.declared.fault.Fault.{Fault}
 use Rattle.trace.specs.declared.record.Record.{Record}
-use Rattle.trace_text.specs.Text.{text_meaning}
-use Rattle.trace_laws.specs.Writing.{text_of, whole}
+use Rattle.trace_laws.specs.Writing.{FitsTypes, text_of, whole}
 
--- Records in range that are written and then read are the same records, and then the end.
+-- Records in range, with fields that their types hold, that are written and then read are the same records, and then the end.
 abbrev pub TextReadBack : Type 0
-TextReadBack = (rs : List Record) → Every InRange rs → text_meaning 0 (text_of rs) ≡ whole rs
+TextReadBack = (rs : List Record) → Every InRange rs → Every FitsTypes rs → text_meaning 0 (text_of rs) ≡ whole rs
 
 -- The place of a fault lies within the input.
 abbrev pub TextWithin : Type 0

@@ -1,10 +1,21 @@
 -- How records are written in each format. Assumes nothing.
-use Rattle.std.specs.Prelude.{ℕ, zero, suc, ◌+◌, ◌/◌, ◌%◌, cond, List, [], ◌∷◌, ◌++◌, codes, decimal, nat_lt}
+use Rattle.std.specs.Prelude.{◌≡◌, ℕ, zero, suc, ◌+◌, ◌/◌, ◌%◌, Bool, true, cond, ◌&&◌, List, [], ◌∷◌, ◌++◌, codes, decimal, nat_le, nat_lt}
 use Rattle.std.specs.List.{flat_map}
-use Rattle.trace.specs.Sources.{Meaning}
+use Rattle.trace.specs.Meanings.{Meaning}
 use Rattle.trace.specs.declared.fault.Ending.TheVariants.{End}
 use Rattle.trace.specs.declared.record.Record.{Record}
 use Rattle.trace.specs.declared.record.Record.TheVariants.{Call, Return, Unwind, Sample}
+
+-- A sample's step and site are within what their types hold, 32 bits and 16. `in_range` leaves these two to the types, but a record of a law
+-- has any numbers as its fields; the other fields are as small as their types by their ranges.
+abbrev pub fits_types : Record → Bool
+fits_types (Call f) = true
+fits_types Return = true
+fits_types (Unwind n) = true
+fits_types (Sample s) = nat_le s.step 4294967295 && nat_le s.site 65535
+
+abbrev pub FitsTypes : Record → Type 0
+FitsTypes r = fits_types r ≡ true
 
 -- a record's fields in their order
 abbrev pub fields_of : Record → List ℕ

@@ -1,5 +1,5 @@
-// What the tests of all sources share, and the numbers of the causes.
-use trace::fault::{Cause, Fault};
+// What the tests of bytes and of tables share.
+use trace::fault::Fault;
 use trace::record::{Record, Sample};
 use trace::source::Source;
 
@@ -29,19 +29,4 @@ pub(crate) fn sample(step: u32, weight: u32, site: u16, region: u8) -> Record {
         site,
         region,
     })
-}
-
-// The numbers of the causes.
-#[test]
-fn numbers_causes(rt: HostRuntime) {
-    let table = [
-        (Cause::CutShort, 1),
-        (Cause::TooLarge, 2),
-        (Cause::UnknownKind, 3),
-        (Cause::OutOfRange, 4),
-        (Cause::BadField, 5),
-    ];
-    for (cause, number) in table {
-        assert_eq!(rt; cause.number(), number);
-    }
 }

@@ -1,5 +1,4 @@
-use mathlib.Core.Path.{◌≡◌}
-use lib.ListN.{length}
+use Rattle.std.proofs.Common.{◌≡◌, length}
 use Rattle.trace_export.specs.Digest.{digest_from}
 use Rattle.trace_export.proofs.digest.Given as goal
 

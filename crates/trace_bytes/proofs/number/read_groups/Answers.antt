@@ -1,21 +1,21 @@
 use Rattle.std.proofs.Common.{◌+◌, ◌-◌, ◌*◌, get_or, Ok, Err, sym, ap, ◌∙◌, arith}
-use Rattle.trace.specs.Sources.{at_place}
+use Rattle.trace.specs.Meanings.{found_at}
 use Rattle.trace_bytes.proofs.GroupSteps.{room_left, read_more, read_cut, read_one, read_large, read_last}
 use Rattle.trace_bytes.proofs.number.read_groups.Goals as goal
 
 pub returns-then-next-bytes : goal.returns-then-next-bytes
 returns-then-next-bytes c =
     let e = read_cut _ _ _ _ _ _ c.loop-taken.invariant c.if-next-bytes.true in
-    record { value = ap Err c.at.ensures ∙ sym (ap (λ x. at_place x c.args.place) e); within = tt }
+    record { value = ap Err c.at.ensures ∙ sym (ap (λ x. found_at x c.args.place) e); within = tt }
 
-pub overflow-mul-result : goal.overflow-mul-result
-overflow-mul-result c =
+pub overflow_mul-result : goal.overflow_mul-result
+overflow_mul-result c =
     let b = get_or c.args.bytes.now c.loop-taken.next 0 in
     let m = room_left c.loop-taken.taken c.loop-taken.scale b c.loop-taken-test.true c.loop-taken.invariant.room (omega (arith, c.if-byte-lt-FOLLOWED.true)) in
     rw c.from.ensures (omega (arith, m.0, m.1))
 
-pub overflow-add-result : goal.overflow-add-result
-overflow-add-result c =
+pub overflow_add-result : goal.overflow_add-result
+overflow_add-result c =
     let b = get_or c.args.bytes.now c.loop-taken.next 0 in
     let m = room_left c.loop-taken.taken c.loop-taken.scale b c.loop-taken-test.true c.loop-taken.invariant.room (omega (arith, c.if-byte-lt-FOLLOWED.true)) in
     rw c.from.ensures (omega (arith, m.0, m.1, c.loop-taken.invariant.small))
@@ -24,46 +24,46 @@ pub returns-then-byte-lt-FOLLOWED : goal.returns-then-byte-lt-FOLLOWED
 returns-then-byte-lt-FOLLOWED c =
     let e = read_one _ _ _ _ _ _ c.loop-taken.invariant c.loop-taken-test.true c.if-next-bytes.false c.if-byte-lt-FOLLOWED.true in
     record {
-      value = ap (λ b. Ok (c.loop-taken.low + c.loop-taken.scale * b, c.loop-taken.taken + 1)) c.from.ensures ∙ sym (ap (λ x. at_place x c.args.place) e);
+      value = ap (λ b. Ok (c.loop-taken.low + c.loop-taken.scale * b, c.loop-taken.taken + 1)) c.from.ensures ∙ sym (ap (λ x. found_at x c.args.place) e);
       within = omega (arith, c.loop-taken.invariant.place, c.if-next-bytes.false);
     }
 
-pub overflow-mul-low : goal.overflow-mul-low
-overflow-mul-low c =
+pub overflow_mul-low : goal.overflow_mul-low
+overflow_mul-low c =
     let b = get_or c.args.bytes.now c.loop-taken.next 0 in
-    let m = room_left c.loop-taken.taken c.loop-taken.scale (b - 128) c.loop-taken-test.true c.loop-taken.invariant.room (omega (arith, (c.type-inv.bytes c.loop-taken.next).fits)) in
+    let m = room_left c.loop-taken.taken c.loop-taken.scale (b - 128) c.loop-taken-test.true c.loop-taken.invariant.room (omega (arith, (c.type_inv.bytes c.loop-taken.next).fits)) in
     rw c.from-in-loop-taken.ensures (omega (arith, m.0, m.1))
 
-pub overflow-add-low : goal.overflow-add-low
-overflow-add-low c =
+pub overflow_add-low : goal.overflow_add-low
+overflow_add-low c =
     let b = get_or c.args.bytes.now c.loop-taken.next 0 in
-    let m = room_left c.loop-taken.taken c.loop-taken.scale (b - 128) c.loop-taken-test.true c.loop-taken.invariant.room (omega (arith, (c.type-inv.bytes c.loop-taken.next).fits)) in
+    let m = room_left c.loop-taken.taken c.loop-taken.scale (b - 128) c.loop-taken-test.true c.loop-taken.invariant.room (omega (arith, (c.type_inv.bytes c.loop-taken.next).fits)) in
     rw c.from-in-loop-taken.ensures (omega (arith, m.0, m.1, c.loop-taken.invariant.small))
 
-pub overflow-mul-scale : goal.overflow-mul-scale
-overflow-mul-scale c =
+pub overflow_mul-scale : goal.overflow_mul-scale
+overflow_mul-scale c =
     let m = room_left c.loop-taken.taken c.loop-taken.scale 0 c.loop-taken-test.true c.loop-taken.invariant.room (omega arith) in
     omega (arith, m.1)
 
 pub loop-taken-preserved : goal.loop-taken-preserved
 loop-taken-preserved c =
-    let r = read_more _ _ _ _ _ _ c.loop-taken.invariant c.loop-taken-test.true c.if-next-bytes.false (c.type-inv.bytes c.loop-taken.next).fits c.if-byte-lt-FOLLOWED.false in
+    let r = read_more _ _ _ _ _ _ c.loop-taken.invariant c.loop-taken-test.true c.if-next-bytes.false (c.type_inv.bytes c.loop-taken.next).fits c.if-byte-lt-FOLLOWED.false in
     rw c.from-in-loop-taken.ensures r
 
 pub returns-then-next-bytes-2 : goal.returns-then-next-bytes-2
 returns-then-next-bytes-2 c =
     let e = read_cut _ _ _ _ _ _ c.loop-taken.invariant c.if-next-bytes-2.true in
-    record { value = ap Err c.at-then-next-bytes-2.ensures ∙ sym (ap (λ x. at_place x c.args.place) e); within = tt }
+    record { value = ap Err c.at-then-next-bytes-2.ensures ∙ sym (ap (λ x. found_at x c.args.place) e); within = tt }
 
-pub returns-then-byte-gt-LARGEST-LAST : goal.returns-then-byte-gt-LARGEST-LAST
-returns-then-byte-gt-LARGEST-LAST c =
-    let e = read_large _ _ _ _ _ _ c.loop-taken.invariant c.loop-taken-test.false c.if-next-bytes-2.false c.if-byte-gt-LARGEST-LAST.true in
-    record { value = ap Err c.at-then-byte-gt-LARGEST-LAST.ensures ∙ sym (ap (λ x. at_place x c.args.place) e); within = tt }
+pub returns-then-byte-gt-LARGEST_LAST : goal.returns-then-byte-gt-LARGEST_LAST
+returns-then-byte-gt-LARGEST_LAST c =
+    let e = read_large _ _ _ _ _ _ c.loop-taken.invariant c.loop-taken-test.false c.if-next-bytes-2.false c.if-byte-gt-LARGEST_LAST.true in
+    record { value = ap Err c.at-then-byte-gt-LARGEST_LAST.ensures ∙ sym (ap (λ x. found_at x c.args.place) e); within = tt }
 
 pub returns : goal.returns
 returns c =
-    let e = read_last _ _ _ _ _ _ c.loop-taken.invariant c.loop-taken-test.false c.if-next-bytes-2.false c.if-byte-gt-LARGEST-LAST.false in
+    let e = read_last _ _ _ _ _ _ c.loop-taken.invariant c.loop-taken-test.false c.if-next-bytes-2.false c.if-byte-gt-LARGEST_LAST.false in
     record {
-      value = ap (λ b. Ok (c.loop-taken.low + c.loop-taken.scale * b, c.loop-taken.taken + 1)) c.from-2.ensures ∙ sym (ap (λ x. at_place x c.args.place) e);
+      value = ap (λ b. Ok (c.loop-taken.low + c.loop-taken.scale * b, c.loop-taken.taken + 1)) c.from-2.ensures ∙ sym (ap (λ x. found_at x c.args.place) e);
       within = omega (arith, c.loop-taken.invariant.place, c.if-next-bytes-2.false);
     }

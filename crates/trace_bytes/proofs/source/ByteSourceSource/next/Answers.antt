@@ -12,18 +12,18 @@ returns-then-at-self c =
     let k = at_end _ (ap (bytes_meaning s.at) (drop_all s.at s.bytes.now c.if-at-self.true)) in
     record { answer = k.answer; rest = k.rest; ending = k.ending }
 
-pub returns-in-err-record : goal.returns-in-err-record
-returns-in-err-record c =
+pub returns-in_err-record : goal.returns-in_err-record
+returns-in_err-record c =
     let s = c.args.self.now in
     let xs = s.bytes.now in
-    let e = err_from_is_err_and c.from-residual.result c.from-residual.ensures.1 in
-    let k = faulted (record_of (get_or xs s.at 0) (drop (s.at + 1) xs)) s.at _ _ _ (record_at xs s.at c.if-at-self.false) c.in-err-record.ensures.value in
+    let e = err_from_is_err_and c.from_residual.result c.from_residual.ensures.1 in
+    let k = faulted (record_of (get_or xs s.at 0) (drop (s.at + 1) xs)) s.at _ _ _ (record_at xs s.at c.if-at-self.false) c.in_err-record.ensures.value in
     record { answer = e.1 ∙ ap Err e.2 ∙ k.answer; rest = k.rest; ending = k.ending }
 
 pub returns : goal.returns
 returns c =
     let s = c.args.self.now in
     let xs = s.bytes.now in
-    let k = delivered (record_of (get_or xs s.at 0) (drop (s.at + 1) xs)) s.at _ _ _ _ (record_at xs s.at c.if-at-self.false) c.in-ok-record.ensures.value in
-    let past = past_record c.in-ok-record.taken s.at xs in
+    let k = delivered (record_of (get_or xs s.at 0) (drop (s.at + 1) xs)) s.at _ _ _ _ (record_at xs s.at c.if-at-self.false) c.in_ok-record.ensures.value in
+    let past = past_record c.in_ok-record.taken s.at xs in
     record { answer = k.answer; rest = ap (λ m. m.records) (sym past) ∙ k.rest; ending = ap (λ m. m.ending) (sym past) ∙ k.ending }
