@@ -31,13 +31,6 @@ pub struct ReadIn {
     pub stop: Stop,
 }
 
-// The answer of a read-in that added so many records.
-fn stopped(added: usize, stop: Stop) -> ReadIn
-    ensures { result ≡ record { added = added; stop = stop } }
-{
-    ReadIn { added, stop }
-}
-
 // Adds records of the source to the summary until the limit is reached, the source ends or the summary rejects.
 pub fn read_in<S: Source, M: Metric>(
     source: &mut S,
@@ -52,13 +45,25 @@ pub fn read_in<S: Source, M: Metric>(
         match source.next() {
             Ok(Some(record)) => match summary.add(record) {
                 Ok(()) => added += 1,
-                Err(rejection) => return stopped(added, Stop::Rejected(rejection)),
+                Err(rejection) => return ReadIn {
+                    added,
+                    stop: Stop::Rejected(rejection),
+                },
             },
-            Ok(None) => return stopped(added, Stop::End),
-            Err(fault) => return stopped(added, Stop::Faulted(fault)),
+            Ok(None) => return ReadIn {
+                added,
+                stop: Stop::End,
+            },
+            Err(fault) => return ReadIn {
+                added,
+                stop: Stop::Faulted(fault),
+            },
         }
     }
-    stopped(added, Stop::Limit)
+    ReadIn {
+        added,
+        stop: Stop::Limit,
+    }
 }
 
 // What holds of every read-in: it can only come out in one way.

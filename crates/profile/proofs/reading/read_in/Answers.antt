@@ -28,4 +28,4 @@ returns-in-Err-add g c =
     let n : Ok (Some c.in-Ok-Some.«record») ≡ answered now e = search rules in
     let reads = renamed m.measure _ _ _ _ _ _ _ _ _ _ _ c.next.ensures.rest c.next.ensures.ending
     (under_way_refused m.measure _ _ _ _ _ _ c.loop-added.added c.loop-added.invariant.1 _ c.in-Ok-Some.«record» _ _ c.loop-added-test.true (some_next now e _ n) c.in-Err-add.ensures) in
-    rw c.stopped.ensures (record { reads = reads; ranged = never_out_of_range m.measure _ _ _ _ _ _ _ _ _ (s.ranged c.args.source.now) reads })
+    record { reads = reads; ranged = never_out_of_range m.measure _ _ _ _ _ _ _ _ _ (s.ranged c.args.source.now) reads }
