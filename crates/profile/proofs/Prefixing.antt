@@ -1,15 +1,16 @@
 -- A read-in that is under way is a read-in whose limit is reached: what its loop needs. Assumes nothing.
-use Rattle.std.proofs.Common.{◌≡◌, ℕ, zero, suc, ◌-◌, ◌<◌, ◌⊎◌, List, [], ◌∷◌, ◌++◌, length, get_or, take, drop, Some, Ok, sym, refl, ap, ◌∙◌, subst, ap₂, inl, inr, ⊎_elim, arith, length-drop}
+use Rattle.std.proofs.Common.{◌≡◌, ℕ, zero, suc, ◌-◌, ◌<◌, ◌≤◌, ◌⊎◌, List, [], ◌∷◌, ◌++◌, length, get_or, take, drop, Some, None, Ok, Err, Option, Result, sym, refl, ap, ◌∙◌, subst, ap₂, inl, inr, ⊎_elim, arith, length-drop}
 use Rattle.trace.specs.declared.record.Record.{Record}
+use Rattle.trace.specs.declared.fault.Fault.{Fault}
 use Rattle.trace.specs.declared.fault.Ending.{Ending}
 use Rattle.trace.specs.declared.fault.Ending.TheVariants.{End as AtEnd, Broken}
 use Rattle.trace.specs.Sources.{at_ending, answered, rest}
 use Rattle.rows.specs.declared.rejection.Rejection.{Rejection}
 use Rattle.profile.specs.declared.reading.Stop.{Stop}
-use Rattle.profile.specs.declared.reading.Stop.TheVariants.{Limit, Rejected}
+use Rattle.profile.specs.declared.reading.Stop.TheVariants.{Limit, End, Faulted, Rejected}
 use Rattle.metrics.specs.Measures.{Measure}
-use Rattle.profile.specs.Given.{Held, step, Accepts, Refuses}
-use Rattle.profile.specs.Reads.{steps, Stops, limited, ended, refused, Reads}
+use Rattle.profile.specs.Given.{Held, step, Accepts, Refuses, Given}
+use Rattle.profile.specs.Reads.{steps, stop_at, Stops, limited, ended, refused, Reads}
 
 pub nil_cons : {A : Type 0} (x : A) (xs : List A) → [] ≡ x ∷ xs → ⊥
 nil_cons x xs e = let z : ◌≡◌ {A = ℕ} 0 1 = cc in omega arith
@@ -41,6 +42,16 @@ not_ended (Broken f) x h = let z : ◌≡◌ {A = ℕ} 0 1 = cc in omega arith
 pub some_next : (xs : List Record) (e : Ending) (r : Record) → Ok (Some r) ≡ answered xs e → xs ≡ r ∷ rest xs
 some_next [] e r h = absurd (not_ended e r h)
 some_next (x ∷ xs) e r h = let z : x ≡ r = cc in ap (λ y. y ∷ xs) z
+
+pub none_next : (xs : List Record) (e : Ending) → Ok None ≡ answered xs e → (xs ≡ []) × (e ≡ AtEnd)
+none_next [] AtEnd h = (refl, refl)
+none_next [] (Broken f) h = let z : ◌≡◌ {A = ℕ} 0 1 = cc in absurd (omega arith)
+none_next (x ∷ xs) e h = let z : ◌≡◌ {A = ℕ} 0 1 = cc in absurd (omega arith)
+
+pub fault_next : (xs : List Record) (e : Ending) (f : Fault) → Err f ≡ answered xs e → (xs ≡ []) × (e ≡ Broken f)
+fault_next [] AtEnd f h = let z : ◌≡◌ {A = ℕ} 0 1 = cc in absurd (omega arith)
+fault_next [] (Broken k) f h = let z : f ≡ k = cc in (refl, ap Broken (sym z))
+fault_next (x ∷ xs) e f h = let z : ◌≡◌ {A = ℕ} 0 1 = cc in absurd (omega arith)
 
 module _ {M : Type 0} (m : Measure M) where
   steps_more : (a : Held M) (xs : List Record) (r : Record) → steps m a (xs ++ (r ∷ [])) ≡ step m (steps m a xs) r
@@ -80,6 +91,18 @@ module _ {M : Type 0} (m : Measure M) where
           ending = h.ending;
           stops = limited refl refl (sym next.1);
         })
+
+    -- the source is at its ending
+    pub under_way_ended : (limit : ℕ) (stop : Stop) → k < limit → now ≡ [] → stop ≡ stop_at e' → Reads m a b xs (rest now) e e' limit k stop
+    under_way_ended limit stop below is s =
+        let over : now ≡ drop k xs = left_over h.stops in
+        record {
+          enough = h.enough;
+          each = h.each;
+          left = h.left;
+          ending = h.ending;
+          stops = ended below (sym over ∙ is) (s ∙ ap stop_at h.ending) (ap rest is);
+        }
 
     -- the summary rejects
     pub under_way_refused : (c : Held M) (r : Record) (x : Rejection) (limit : ℕ) → k < limit → now ≡ r ∷ rest now → (c ≡ b) × Refuses b r x → Reads m a c xs (rest now) e e' limit k (Rejected x)
