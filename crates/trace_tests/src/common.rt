@@ -1,4 +1,4 @@
-// What the tests of bytes and of tables share.
+// What the tests of all sources share.
 use trace::fault::Fault;
 use trace::record::{Record, Sample};
 use trace::source::Source;

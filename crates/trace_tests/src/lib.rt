@@ -12,38 +12,14 @@ mod tables;
 
 #[cfg(test)]
 mod tests {
+    use crate::common::{call, count_of, sample, unwind};
     use trace::fault::{Cause, Fault};
-    use trace::record::{Record, Sample};
+    use trace::record::Record;
     use trace::source::Source;
     use trace::text::TextSource;
 
-    // How many records come before the end, of eight at most; or the fault that comes before it.
     fn count(text: &[u8]) -> Result<usize, Fault> {
-        let mut source = TextSource::new(text);
-        for n in 0..8 {
-            match source.next()? {
-                Some(_) => {}
-                None => return Ok(n),
-            }
-        }
-        Ok(8)
-    }
-
-    fn call(function: u16) -> Record {
-        Record::Call { function }
-    }
-
-    fn unwind(count: u16) -> Record {
-        Record::Unwind { count }
-    }
-
-    fn sample(step: u32, weight: u32, site: u16, region: u8) -> Record {
-        Record::Sample(Sample {
-            step,
-            weight,
-            site,
-            region,
-        })
+        count_of(&mut TextSource::new(text))
     }
 
     // The first and the last number of each range, also with zeros before it.
