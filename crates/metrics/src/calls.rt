@@ -1,40 +1,24 @@
 // Calls: how often a context was entered.
-ghost use Rattle.metrics.specs.Sums.{Capped, capped, calls};
-ghost use Rattle.metrics.specs.Lawful.{sums_laws};
-
-use crate::metric::Metric;
+use crate::sum::{Amount, Sum};
 use trace::record::Sample;
 
-// A number of calls, which stops at 18,446,744,073,709,551,615.
+// One for each call, nothing for a sample.
 #[derive(Clone, Copy, PartialEq, Eq, Debug)]
-pub struct Calls {
-    pub count: u64,
-}
+pub struct CallCount;
 
-impl Metric for Calls {
-    ghost Meaning = { Capped };
+impl Amount for CallCount {
+    ghost call = { 1 };
 
-    ghost means = { λ c. capped c.count };
+    ghost sample = { λ s. 0 };
 
-    ghost measure = { calls };
-
-    ghost lawful = { sums_laws 1 (λ s. 0) };
-
-    fn unit() -> Calls {
-        Calls { count: 0 }
+    fn of_call() -> u64 {
+        1
     }
 
-    fn of_call() -> Calls {
-        Calls { count: 1 }
-    }
-
-    fn of_sample(_sample: Sample) -> Calls {
-        Self::unit()
-    }
-
-    fn join(self, other: Calls) -> Calls {
-        Calls {
-            count: self.count.saturating_add(other.count),
-        }
+    fn of_sample(_sample: Sample) -> u64 {
+        0
     }
 }
+
+// A number of calls.
+pub type Calls = Sum<CallCount>;

@@ -5,4 +5,5 @@
 pub mod calls;
 pub mod metric;
 pub mod pair;
+pub mod sum;
 pub mod work;

@@ -1,42 +1,24 @@
 // Work: how much weight the samples of a context have.
-ghost use Rattle.metrics.specs.Sums.{Capped, capped, work};
-ghost use Rattle.metrics.specs.Lawful.{sums_laws};
-
-use crate::metric::Metric;
+use crate::sum::{Amount, Sum};
 use trace::record::Sample;
 
-// A sum of weights, which stops at 18,446,744,073,709,551,615.
+// Nothing for a call, its weight for a sample.
 #[derive(Clone, Copy, PartialEq, Eq, Debug)]
-pub struct Work {
-    pub weight: u64,
-}
+pub struct SampleWeight;
 
-impl Metric for Work {
-    ghost Meaning = { Capped };
+impl Amount for SampleWeight {
+    ghost call = { 0 };
 
-    ghost means = { λ w. capped w.weight };
+    ghost sample = { λ s. s.weight };
 
-    ghost measure = { work };
-
-    ghost lawful = { sums_laws 0 (λ s. s.weight) };
-
-    fn unit() -> Work {
-        Work { weight: 0 }
+    fn of_call() -> u64 {
+        0
     }
 
-    fn of_call() -> Work {
-        Self::unit()
-    }
-
-    fn of_sample(sample: Sample) -> Work {
-        Work {
-            weight: sample.weight as u64,
-        }
-    }
-
-    fn join(self, other: Work) -> Work {
-        Work {
-            weight: self.weight.saturating_add(other.weight),
-        }
+    fn of_sample(sample: Sample) -> u64 {
+        u64::from(sample.weight)
     }
 }
+
+// A sum of weights.
+pub type Work = Sum<SampleWeight>;
