@@ -2,7 +2,7 @@
 
 #![tactic(auto)]
 
-use printing::{Printed, print_trace};
+use printing::{PrintError, print_trace};
 use std::io::Read;
 use std::process::ExitCode;
 
@@ -13,15 +13,16 @@ fn main(rt: HostRuntime) -> anyhow::Result<ExitCode> {
     let heap = rt.alloc();
     let mut text = Vec::new(heap);
     rt.stdin().take(MOST_READ).read_to_end(&mut text)?;
-    match print_trace(heap, &text)? {
-        Printed::Page(page) => {
+    match print_trace(heap, &text) {
+        Ok(page) => {
             print!(rt; "{page}")?;
             Ok(ExitCode::SUCCESS)
         }
         // the line is all that a stopped run prints; a script sees the status
-        Printed::Stopped(line) => {
+        Err(PrintError::Stopped(line)) => {
             print!(rt; "{line}")?;
             Ok(ExitCode::FAILURE)
         }
+        Err(PrintError::NoMemory(error)) => Err(error.into()),
     }
 }

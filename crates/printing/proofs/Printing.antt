@@ -1,6 +1,6 @@
 -- From what the calls of `print_trace` ensure to what is printed. Assumes nothing.
-use Rattle.std.proofs.Common.{◌≡◌, ℕ, ◌≤◌, List, length, IfOk, Some, Ok, Err, MatchBool, Option, Result, sym, ap, subst, arith}
-use Rattle.std.proofs.lemmas.Bool.{le-ltb}
+use Rattle.std.proofs.Common.{◌≡◌, ℕ, ◌<◌, ◌≤◌, List, length, Ok, Err, MatchBool, Result, refl, sym, ap, subst, arith}
+use Rattle.std.proofs.lemmas.Bool.{le-ltb, lt-ltb}
 use Rattle.trace.specs.declared.record.Record.{Record}
 use Rattle.trace.specs.declared.fault.Ending.{Ending}
 use Rattle.trace.specs.Text.{text_records, text_ending}
@@ -11,14 +11,26 @@ use Rattle.profile.specs.Given.{Held}
 use Rattle.profile.specs.View.{fresh}
 use Rattle.profile.specs.Reads.{Reads}
 use Rattle.report.specs.declared.page.StopLine.{StopLine}
-use Rattle.printing.specs.declared.Printed.{Printed}
-use Rattle.printing.specs.Prints.{cost, stopping, Shows, Reading, Prints, stop_line}
+use Rattle.printing.specs.declared.PrintError.{PrintError}
+use Rattle.printing.specs.declared.PrintError.TheVariants.{Stopped, NoMemory}
+use Rattle.printing.specs.Prints.{cost, stopping, Reading, Came, Tells, GoesOn, Halts, stop_line}
 use Rattle.printing.proofs.Few.{text_few, stops_below}
 
--- what is made, by what follows of it
-made_map : {X Y : Type 0} (P Q : X → Type 0) → ((x : X) → P x → Q x) → (r : Result X Y) → IfOk r P → IfOk r Q
-made_map P Q f (Ok x) h = f x h
-made_map P Q f (Err y) h = tt
+-- an error that tells the line is what a text that stops with it comes to
+pub told : (text : List ℕ) (e : PrintError) (line : StopLine) → Came text (Err line) → Tells e line → Halts text e
+told text (Stopped s) line came tells = (line, came, tells)
+told text (NoMemory e) line came tells = tt
+
+pub halted : (text : List ℕ) (line : Result (Unit {0}) StopLine) (e : PrintError) → Came text line → GoesOn line (Err e) → Halts text e
+halted text (Ok u) e came h = absurd h
+halted text (Err l) e came h = told text e l came h
+
+pub went_on : (text : List ℕ) (line : Result (Unit {0}) StopLine) (v : Unit {0}) → Came text line → GoesOn line (Ok v) → Came text (Ok tt)
+went_on text (Ok u) v came h = came
+went_on text (Err l) v came h = absurd h
+
+pub too_long_came : (text : List ℕ) → 65536 < length text → Came text (Err (stop_line 15 65536 0))
+too_long_came text h = subst (λ t. MatchBool t (◌≡◌ {A = Result (Unit {0}) StopLine} (Err (stop_line 15 65536 0)) (Err (stop_line 15 65536 0))) (Reading text (Err (stop_line 15 65536 0)))) (sym (lt-ltb 65536 (length text) h)) refl
 
 module _ (text : List ℕ) (a b : Held (Capped × Capped)) (xs rest : List Record) (e e' : Ending) (count : ℕ) (stop : Stop) (reads : Reads cost a b xs rest e e' 65538 count stop) (ea : a ≡ fresh cost 1024) (ex : xs ≡ text_records text) (ee : e ≡ text_ending 0 text) (few : length text ≤ 65536) where
   pub below_limit : stop ≡ Limit → ⊥
@@ -27,8 +39,6 @@ module _ (text : List ℕ) (a b : Held (Capped × Capped)) (xs rest : List Recor
   whole : Reads cost (fresh cost 1024) b (text_records text) rest (text_ending 0 text) e' 65538 count stop
   whole = subst (λ u. Reads cost u b (text_records text) rest (text_ending 0 text) e' 65538 count stop) ea (subst (λ u. Reads cost a b u rest (text_ending 0 text) e' 65538 count stop) ex (subst (λ u. Reads cost a b xs rest u e' 65538 count stop) ee reads))
 
-  pub printed : {Y : Type 0} (r : Result Printed Y) (line : Option StopLine) → line ≡ stopping count stop → IfOk r (λ p. Shows p line) → IfOk r (λ p. Prints text p)
-  printed r line el h = made_map (λ p. Shows p line) (λ p. Prints text p)
-      (λ p s. subst (λ t. MatchBool t (Shows p (Some (stop_line 15 65536 0))) (Reading text p)) (sym (le-ltb 65536 (length text) few))
-      (record { left = b; rest = rest; ending = e'; count = count; stop = stop; reads = whole; unlimited = below_limit; shows = subst (Shows p) el s }))
-      r h
+  pub came : (line : Result (Unit {0}) StopLine) → line ≡ stopping count stop → Came text line
+  came line is = subst (λ t. MatchBool t (line ≡ Err (stop_line 15 65536 0)) (Reading text line)) (sym (le-ltb 65536 (length text) few))
+      (record { left = b; rest = rest; ending = e'; count = count; stop = stop; reads = whole; unlimited = below_limit; is = is })

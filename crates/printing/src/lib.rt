@@ -2,11 +2,12 @@
 
 #![tactic(auto)]
 
-ghost use Rattle.std.specs.Prelude.{◌≡◌, ℕ, ◌+◌, ◌<◌, ◌≤◌, length, IfOk, Some, None, vec_len, ◌≢◌};
+ghost use Rattle.std.specs.Prelude.{◌≡◌, ◌<◌, length, IfOk, vec_len, ◌≢◌};
 ghost use Rattle.std.specs.List.{AllByRecursion};
 ghost use Rattle.rows.specs.ShapeColumn.{IsShape};
 ghost use Rattle.profile.specs.declared.reading.Stop.TheVariants.{Limit};
-ghost use Rattle.printing.specs.Prints.{named, stopping, Prints, Shows, too_long};
+ghost use Rattle.printing.specs.declared.PrintError.TheVariants.{NoMemory};
+ghost use Rattle.printing.specs.Prints.{named, stopping, Prints, Tells, GoesOn};
 
 use metrics::calls::Calls;
 use metrics::metric::Metric;
@@ -38,13 +39,21 @@ const MOST_RECORDS: usize = 65_538;
 // The rows that a page is made in.
 const ROWS: usize = 1_024;
 
-// What is printed.
+// Why there is no page.
 #[derive(Drop)]
-pub enum Printed {
-    // the tree, one line for each row, and a last line
-    Page(String),
-    // the one line of a stop
+pub enum PrintError {
+    // reading stopped; the one line, with its end, that is printed in place of a page
     Stopped(String),
+    // there is no memory for what is printed
+    NoMemory(AllocError),
+}
+
+impl From<AllocError> for PrintError {
+    ghost from_gives = { λ error r. r ≡ NoMemory error };
+
+    fn from(error: AllocError) -> PrintError {
+        PrintError::NoMemory(error)
+    }
 }
 
 // What stands in a row's name column: the root has no function.
@@ -55,27 +64,6 @@ fn name_of(function: u16) -> Name
         Name::Root
     } else {
         Name::Function(function)
-    }
-}
-
-// The line that a read-in stops with, none where the source was read to its end.
-fn stop_of(read: ReadIn) -> Option<StopLine>
-    requires { read.stop ≢ Limit }
-    ensures { result ≡ stopping read.added read.stop }
-{
-    match read.stop {
-        Stop::Limit => unreachable(),
-        Stop::End => None,
-        Stop::Faulted(fault) => Some(StopLine {
-            cause: fault.cause.number(),
-            place: fault.place,
-            passed: fault.passed,
-        }),
-        Stop::Rejected(rejection) => Some(StopLine {
-            cause: rejection.number(),
-            place: read.added,
-            passed: 0,
-        }),
     }
 }
 
@@ -122,10 +110,10 @@ fn page_line(depth: u16, row: TreeRow<Cost>, inclusive: Cost) -> PageLine {
     PageLine {
         depth,
         name: name_of(row.function),
-        own_calls: row.value.first.count,
-        own_work: row.value.second.weight,
-        calls: inclusive.first.count,
-        work: inclusive.second.weight,
+        own_calls: row.value.first.total,
+        own_work: row.value.second.total,
+        calls: inclusive.first.total,
+        work: inclusive.second.total,
     }
 }
 
@@ -156,40 +144,58 @@ fn page_of(heap: Global, tree: &Tree<'_, Cost>) -> Result<String, AllocError> {
     page_text(heap, &lines, &footer)
 }
 
-// What is printed where reading stopped.
-fn stopped(heap: Global, stop: &StopLine) -> Result<Printed, AllocError>
-    ensures { IfOk result (λ p. Shows p (Some stop.now)) }
+// The error that a stop is: its line, if there is memory for that.
+fn stopped(heap: Global, line: StopLine) -> PrintError
+    ensures { Tells result line }
 {
-    Ok(Printed::Stopped(stop_text(heap, stop)?))
+    stop_text(heap, &line).map_or_else(PrintError::NoMemory, PrintError::Stopped)
 }
 
-// What is printed where it did not.
-fn paged(heap: Global, tree: &Tree<'_, Cost>) -> Result<Printed, AllocError>
-    ensures { IfOk result (λ p. Shows p None) }
+// Goes on where the source was read to its end, and else stops with the line of what stopped the read-in.
+fn read_through(heap: Global, read: ReadIn) -> Result<(), PrintError>
+    requires { read.stop ≢ Limit }
+    ensures { GoesOn (stopping read.added read.stop) result }
 {
-    Ok(Printed::Page(page_of(heap, tree)?))
+    match read.stop {
+        Stop::Limit => unreachable(),
+        Stop::End => Ok(()),
+        Stop::Faulted(fault) => Err(stopped(
+            heap,
+            StopLine {
+                cause: fault.cause.number(),
+                place: fault.place,
+                passed: fault.passed,
+            },
+        )),
+        Stop::Rejected(rejection) => Err(stopped(
+            heap,
+            StopLine {
+                cause: rejection.number(),
+                place: read.added,
+                passed: 0,
+            },
+        )),
+    }
 }
 
 // What is printed of a text trace.
-pub fn print_trace(heap: Global, text: &[u8]) -> Result<Printed, AllocError>
-    ensures { IfOk result (λ p. Prints text.now p) }
+pub fn print_trace(heap: Global, text: &[u8]) -> Result<String, PrintError>
+    ensures { Prints text.now result }
 {
     if text.len() > MOST_BYTES {
-        return stopped(
+        return Err(stopped(
             heap,
-            &StopLine {
+            StopLine {
                 cause: INPUT_TOO_LONG,
                 place: MOST_BYTES,
                 passed: 0,
             },
-        );
+        ));
     }
     let mut table = vec![in heap; Row::<Cost>::empty(); ROWS]?;
     let mut summary = Summary::new(table.as_mut_slice());
     let mut source = TextSource::new(text);
     let read = read_in(&mut source, &mut summary, MOST_RECORDS);
-    match stop_of(read) {
-        Some(stop) => stopped(heap, &stop),
-        None => paged(heap, &summary.finish()),
-    }
+    read_through(heap, read)?;
+    Ok(page_of(heap, &summary.finish())?)
 }

@@ -4,15 +4,15 @@
 
 #[cfg(test)]
 mod tests {
-    use printing::{Printed, print_trace};
+    use printing::{PrintError, print_trace};
     use std::alloc::{AllocError, Global};
     use std::test::Fail;
 
     // What is printed of a trace.
     fn printed(heap: Global, trace: &[u8]) -> Result<String, AllocError> {
-        match print_trace(heap, trace)? {
-            Printed::Page(text) => Ok(text),
-            Printed::Stopped(text) => Ok(text),
+        match print_trace(heap, trace) {
+            Ok(text) | Err(PrintError::Stopped(text)) => Ok(text),
+            Err(PrintError::NoMemory(error)) => Err(error),
         }
     }
 
