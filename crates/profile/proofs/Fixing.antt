@@ -3,7 +3,7 @@ use Rattle.std.proofs.Common.{◌≡◌, ℕ, suc, ◌<◌, ◌≤◌, List, ◌
 use Rattle.std.proofs.Math.Seq.{take-add}
 use Rattle.std.proofs.lemmas.Bool.{cases_lt}
 use Rattle.trace.specs.declared.record.Record.{Record}
-use Rattle.trace.specs.declared.fault.Ending.{Ending}
+use Rattle.trace.specs.Sources.{Ending}
 use Rattle.rows.specs.declared.rejection.Rejection.{Rejection}
 use Rattle.metrics.specs.Measures.{Measure}
 use Rattle.profile.specs.declared.reading.Stop.{Stop}

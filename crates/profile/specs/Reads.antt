@@ -1,8 +1,7 @@
 -- What a read-in adds, where it stops and what it leaves of its source. Assumes nothing.
 use Rattle.std.specs.Prelude.{◌≡◌, ℕ, ◌<◌, ◌≤◌, List, [], ◌∷◌, ◌++◌, length, take, drop, fold, Ok, Err, Result}
 use Rattle.trace.specs.declared.record.Record.{Record}
-use Rattle.trace.specs.declared.fault.Ending.{Ending}
-use Rattle.trace.specs.declared.fault.Ending.TheVariants.{End as AtEnd, Broken}
+use Rattle.trace.specs.Sources.{Ending}
 use Rattle.rows.specs.declared.rejection.Rejection.{Rejection}
 use Rattle.profile.specs.declared.reading.Stop.{Stop}
 use Rattle.profile.specs.declared.reading.Stop.TheVariants.{Limit, End, Faulted, Rejected}
@@ -13,9 +12,10 @@ use Rattle.profile.specs.Given.{Held, step, Accepts, Refuses}
 abbrev pub steps : {M : Type 0} → Measure M → Held M → List Record → Held M
 steps m = fold (step m)
 
+-- how a read-in stops that meets the ending
 abbrev pub stop_at : Ending → Stop
-stop_at AtEnd = End
-stop_at (Broken f) = Faulted f
+stop_at (Ok _) = End
+stop_at (Err f) = Faulted f
 
 -- Why a read-in stopped that added count records and left the summary a, where the source then had rest: the limit was reached; else the
 -- source was at its ending; else a rejects the next record, which has left the source.

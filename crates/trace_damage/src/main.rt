@@ -6,7 +6,7 @@
 ghost use Rattle.std.specs.Prelude.{◌<◌};
 
 use std::{fmt, io};
-use trace::fault::Fault;
+use trace::fault::{Ending, Fault};
 use trace::record::{Record, Sample};
 use trace::source::Source;
 use trace::text::TextSource;
@@ -99,8 +99,8 @@ impl fmt::Display for Digest {
 struct Outcome {
     // how many records were delivered before the ending
     records: usize,
-    // the end, or a fault; none if there were more records than bytes, which no trace has
-    ending: Option<Result<(), Fault>>,
+    // none if there were more records than bytes, which no trace has
+    ending: Option<Ending>,
     // of every answer in order
     digest: Digest,
 }
@@ -159,7 +159,7 @@ impl Tally {
         Tally { counts: [0; 6] }
     }
 
-    fn count(&mut self, ending: Result<(), Fault>) {
+    fn count(&mut self, ending: Ending) {
         let index = match ending {
             Ok(()) => 0,
             Err(fault) => usize::from(fault.cause.number()),
