@@ -2,8 +2,7 @@
 use Rattle.std.proofs.Common.{◌≡◌, ℕ, suc, ◌<◌, ◌≤◌, Bool, true, false, cond, eqb, List, [], ◌∷◌, length, Ok, Err, Result, sym, ◌∙◌, arith}
 use Rattle.trace.specs.declared.record.Record.{Record}
 use Rattle.trace.specs.declared.fault.Cause.{Cause}
-use Rattle.trace.specs.declared.fault.Ending.{Ending}
-use Rattle.trace.specs.declared.fault.Ending.TheVariants.{End as AtEnd, Broken}
+use Rattle.trace.specs.Sources.{Ending}
 use Rattle.trace.specs.Pieces.{onto, pieces}
 use Rattle.trace.specs.Text.{line_record, record_then, line_records, lines, text_records}
 use Rattle.profile.specs.declared.reading.Stop.{Stop}
@@ -36,8 +35,8 @@ pub text_few : (text : List ℕ) → length (text_records text) ≤ suc (length 
 text_few text = omega (arith, records_long (lines text), pieces_long 10 text)
 
 ending_limit : (e : Ending) → stop_at e ≡ Limit → ⊥
-ending_limit AtEnd h = let z : ◌≡◌ {A = ℕ} 0 1 = cc in omega arith
-ending_limit (Broken f) h = let z : ◌≡◌ {A = ℕ} 0 1 = cc in omega arith
+ending_limit (Ok _) h = let z : ◌≡◌ {A = ℕ} 0 1 = cc in omega arith
+ending_limit (Err f) h = let z : ◌≡◌ {A = ℕ} 0 1 = cc in omega arith
 
 pub stops_below : {M : Type 0} {a : Held M} {limit count : ℕ} {rest rest' : List Record} {e : Ending} {stop : Stop} → Stops a limit count rest rest' e stop → count < limit → stop ≡ Limit → ⊥
 stops_below (limited h is z) l x = omega arith

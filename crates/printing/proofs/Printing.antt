@@ -2,7 +2,7 @@
 use Rattle.std.proofs.Common.{◌≡◌, ℕ, ◌<◌, ◌≤◌, List, length, Ok, Err, MatchBool, Result, refl, sym, ap, subst, arith}
 use Rattle.std.proofs.lemmas.Bool.{le-ltb, lt-ltb}
 use Rattle.trace.specs.declared.record.Record.{Record}
-use Rattle.trace.specs.declared.fault.Ending.{Ending}
+use Rattle.trace.specs.Sources.{Ending}
 use Rattle.trace.specs.Text.{text_records, text_ending}
 use Rattle.metrics.specs.Sums.{Capped}
 use Rattle.profile.specs.declared.reading.Stop.{Stop}

@@ -1,7 +1,7 @@
 -- What is printed of a text trace. Assumes nothing.
 use Rattle.std.specs.Prelude.{◌≡◌, ℕ, Bool, cond, List, length, Ok, Err, Result, String, string_bytes, MatchBool, ◌==◌, nat_lt}
 use Rattle.trace.specs.declared.record.Record.{Record}
-use Rattle.trace.specs.declared.fault.Ending.{Ending}
+use Rattle.trace.specs.Sources.{Ending}
 use Rattle.trace.specs.Faults.{number as cause_number}
 use Rattle.trace.specs.Text.{text_records, text_ending}
 use Rattle.metrics.specs.Measures.{Measure}

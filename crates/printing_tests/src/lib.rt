@@ -16,26 +16,16 @@ mod tests {
         }
     }
 
-    // Some copies of a line.
-    fn repeated(heap: Global, line: &str, times: usize) -> Result<String, AllocError> {
-        let mut text = String::new(heap);
-        for _ in 0..times {
-            text.push_str(line)?;
-        }
-        Ok(text)
-    }
-
     // A call of each function from 1 to the last, each left before the next.
     fn children(heap: Global, last: u16) -> Result<String, AllocError> {
         let mut text = String::new(heap);
         for function in 1..=last {
-            let lines = format!(in heap; "call {function}\nback\n")?;
-            text.push_str(lines.as_str())?;
+            write!(text, "call {function}\nback\n")?;
         }
         Ok(text)
     }
 
-    const PAGES: [(&str, &str); 6] = [
+    const PAGES: &[(&str, &str)] = &[
         ("", "0 . 0 0 0 0\nstrays 0 open 0\n"),
         ("\n\nback\nback", "0 . 0 0 0 0\nstrays 2 open 0\n"),
         (
@@ -53,7 +43,7 @@ mod tests {
         ("unwind 4095\n", "stopped 9 0 0\n"),
     ];
 
-    const STOPS: [(&str, &str); 10] = [
+    const STOPS: &[(&str, &str)] = &[
         ("call 1\n\ncall", "stopped 1 8 0\n"),
         ("sample 1 2 3\n", "stopped 1 0 0\n"),
         ("call 4294967296\n", "stopped 2 0 0\n"),
@@ -78,13 +68,13 @@ mod tests {
     #[test]
     fn a_path_has_512_functions(rt: HostRuntime) -> Result<(), Fail> {
         let heap = rt.alloc();
-        let deep = repeated(heap, "call 1\n", 512)?;
+        let deep = "call 1\n".repeat(heap, 512)?;
         assert!(rt;
             printed(heap, deep.as_bytes())?
                 .as_str()
                 .ends_with("strays 0 open 512\n")
         );
-        let deeper = repeated(heap, "call 1\n", 513)?;
+        let deeper = "call 1\n".repeat(heap, 513)?;
         assert_eq!(rt;
             printed(heap, deeper.as_bytes())?.as_str(),
             "stopped 10 512 0\n"
@@ -112,12 +102,12 @@ mod tests {
     #[test]
     fn a_trace_has_65536_bytes(rt: HostRuntime) -> Result<(), Fail> {
         let heap = rt.alloc();
-        let long = repeated(heap, "\n", 65_536)?;
+        let long = "\n".repeat(heap, 65_536)?;
         assert_eq!(rt;
             printed(heap, long.as_bytes())?.as_str(),
             "0 . 0 0 0 0\nstrays 0 open 0\n"
         );
-        let longer = repeated(heap, "x", 65_537)?;
+        let longer = "x".repeat(heap, 65_537)?;
         assert_eq!(rt;
             printed(heap, longer.as_bytes())?.as_str(),
             "stopped 15 65536 0\n"

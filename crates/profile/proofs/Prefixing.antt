@@ -1,121 +1,97 @@
--- A read-in that is under way is a read-in whose limit is reached: what its loop needs. Assumes nothing.
-use Rattle.std.proofs.Common.{◌≡◌, ℕ, zero, suc, ◌-◌, ◌<◌, ◌≤◌, ◌⊎◌, List, [], ◌∷◌, ◌++◌, length, get_or, take, drop, Some, None, Ok, Err, Option, Result, sym, refl, ap, ◌∙◌, subst, ap₂, inl, inr, ⊎_elim, arith, length-drop}
+-- One record read is a read-in of limit 1, and read-ins in a row are one: what the loop of a read-in needs. Assumes nothing.
+use Rattle.std.proofs.Common.{◌≡◌, ℕ, ◌+◌, ◌<◌, ◌⊎◌, List, [], ◌∷◌, ◌++◌, length, take, drop, Some, Ok, Err, sym, refl, ap, ◌∙◌, subst, inl, inr, ⊎_elim, add-zero, arith, length-drop}
+use Rattle.std.proofs.Math.Seq.{take-add}
+use Rattle.std.proofs.lemmas.List.{drop-drop}
+use Rattle.std.proofs.lemmas.List.Sums.{fold-append}
 use Rattle.trace.specs.declared.record.Record.{Record}
-use Rattle.trace.specs.declared.fault.Fault.{Fault}
-use Rattle.trace.specs.declared.fault.Ending.{Ending}
-use Rattle.trace.specs.declared.fault.Ending.TheVariants.{End as AtEnd, Broken}
-use Rattle.trace.specs.Sources.{at_ending, answered, rest}
+use Rattle.trace.specs.Sources.{Ending, answered, rest}
 use Rattle.rows.specs.declared.rejection.Rejection.{Rejection}
 use Rattle.profile.specs.declared.reading.Stop.{Stop}
-use Rattle.profile.specs.declared.reading.Stop.TheVariants.{Limit, End, Faulted, Rejected}
+use Rattle.profile.specs.declared.reading.Stop.TheVariants.{Limit, Rejected}
 use Rattle.metrics.specs.Measures.{Measure}
-use Rattle.profile.specs.Given.{Held, step, Accepts, Refuses, Given}
+use Rattle.profile.specs.Given.{Held, step, Accepts, Given}
 use Rattle.profile.specs.Reads.{steps, stop_at, Stops, limited, ended, refused, Reads}
 
-pub nil_cons : {A : Type 0} (x : A) (xs : List A) → [] ≡ x ∷ xs → ⊥
-nil_cons x xs e = let z : ◌≡◌ {A = ℕ} 0 1 = cc in omega arith
-
--- the last of a list, or one before it
-snoc_split : (ys : List Record) (r : Record) (front : List Record) (q : Record) (back : List Record) → ys ++ (r ∷ []) ≡ front ++ (q ∷ back) → ((front ≡ ys) × (q ≡ r)) ⊎ ((more : List Record) × (ys ≡ front ++ (q ∷ more)))
-snoc_split [] r [] q back h = inl (refl, sym (ap (λ l. get_or l 0 r) h))
-snoc_split [] r (f ∷ []) q back h = absurd (nil_cons q back (ap (drop 1) h))
-snoc_split [] r (f ∷ g ∷ front) q back h = absurd (nil_cons g (front ++ (q ∷ back)) (ap (drop 1) h))
-snoc_split (y ∷ ys) r [] q back h = inr (ys, ap (λ z. z ∷ ys) (ap (λ l. get_or l 0 y) h))
-snoc_split (y ∷ ys) r (f ∷ front) q back h =
-    let same_head : y ≡ f = ap (λ l. get_or l 0 y) h in
+-- an element of two lists in a row is one of the first or one of the second
+split : {X : Type 0} (xs ys front : List X) (x : X) (back : List X) → xs ++ ys ≡ front ++ (x ∷ back) → ((more : List X) × (xs ≡ front ++ (x ∷ more))) ⊎ ((more : List X) × (front ≡ xs ++ more) × (ys ≡ more ++ (x ∷ back)))
+split [] ys front x back h = inr (front, refl, h)
+split (y ∷ xs) ys [] x back h = inl (xs, cc)
+split (y ∷ xs) ys (f ∷ front) x back h =
+    let same : f ≡ y = cc in
+    let left : xs ++ ys ≡ front ++ (x ∷ back) = cc in
     ⊎_elim
-    (λ e. inl (ap₂ ◌∷◌ (sym same_head) e.0, e.1))
-    (λ e. inr (e.0, ap₂ ◌∷◌ same_head e.1))
-    (snoc_split ys r front q back (ap (drop 1) h))
+    (λ s. inl (s.0, rw (same, s.1)))
+    (λ s. inr (s.0, rw (same, s.1), s.2))
+    (split xs ys front x back left)
 
-take_next : (k : ℕ) (xs : List Record) (r : Record) (rs : List Record) → drop k xs ≡ r ∷ rs → (take (suc k) xs ≡ take k xs ++ (r ∷ [])) × (drop (suc k) xs ≡ rs)
-take_next zero [] r rs h = absurd (nil_cons r rs h)
-take_next zero (x ∷ xs) r rs h = (ap (λ z. z ∷ []) (ap (λ l. get_or l 0 x) h), ap (drop 1) h)
-take_next (suc k) [] r rs h = absurd (nil_cons r rs h)
-take_next (suc k) (x ∷ xs) r rs h = let others = take_next k xs r rs h in (ap (λ z. x ∷ z) others.0, others.1)
-
--- ---- what the answers of a source's next say
-not_ended : (e : Ending) (x : Record) → Ok (Some x) ≡ at_ending e → ⊥
-not_ended AtEnd x h = let z : ◌≡◌ {A = ℕ} 0 1 = cc in omega arith
-not_ended (Broken f) x h = let z : ◌≡◌ {A = ℕ} 0 1 = cc in omega arith
-
-pub some_next : (xs : List Record) (e : Ending) (r : Record) → Ok (Some r) ≡ answered xs e → xs ≡ r ∷ rest xs
-some_next [] e r h = absurd (not_ended e r h)
-some_next (x ∷ xs) e r h = let z : x ≡ r = cc in ap (λ y. y ∷ xs) z
-
-pub none_next : (xs : List Record) (e : Ending) → Ok None ≡ answered xs e → (xs ≡ []) × (e ≡ AtEnd)
-none_next [] AtEnd h = (refl, refl)
-none_next [] (Broken f) h = let z : ◌≡◌ {A = ℕ} 0 1 = cc in absurd (omega arith)
-none_next (x ∷ xs) e h = let z : ◌≡◌ {A = ℕ} 0 1 = cc in absurd (omega arith)
-
-pub fault_next : (xs : List Record) (e : Ending) (f : Fault) → Err f ≡ answered xs e → (xs ≡ []) × (e ≡ Broken f)
-fault_next [] AtEnd f h = let z : ◌≡◌ {A = ℕ} 0 1 = cc in absurd (omega arith)
-fault_next [] (Broken k) f h = let z : f ≡ k = cc in (refl, ap Broken (sym z))
-fault_next (x ∷ xs) e f h = let z : ◌≡◌ {A = ℕ} 0 1 = cc in absurd (omega arith)
+-- an answer that is a record is the first to come
+some_next : (xs : List Record) (e : Ending) (r : Record) → Ok (Some r) ≡ answered xs e → xs ≡ r ∷ rest xs
+some_next xs e r h = grind arith
 
 module _ {M : Type 0} (m : Measure M) where
-  steps_more : (a : Held M) (xs : List Record) (r : Record) → steps m a (xs ++ (r ∷ [])) ≡ step m (steps m a xs) r
-  steps_more a [] r = refl
-  steps_more a (x ∷ xs) r = steps_more (step m a x) xs r
+  -- of no record each is accepted
+  none : (a : Held M) (front : List Record) (r : Record) (back : List Record) → [] ≡ front ++ (r ∷ back) → Accepts (steps m a front) r
+  none a [] r back h = absurd (cc)
+  none a (f ∷ front) r back h = absurd (cc)
 
-  -- before the first record
-  pub under_way_none : (a : Held M) (xs : List Record) (e : Ending) → Reads m a a xs xs e e 0 0 Limit
-  under_way_none a xs e = record { enough = omega arith; each = none; left = refl; ending = refl; stops = limited refl refl refl }
+  -- nothing is read
+  pub none_read : (a : Held M) (xs : List Record) (e : Ending) → Reads m a a xs xs e e 0 0 Limit
+  none_read a xs e = record { enough = omega arith; each = none a; left = refl; ending = refl; stops = limited refl refl refl }
+
+  -- the next record is accepted
+  pub one_added : (a b : Held M) (xs ys : List Record) (e e' : Ending) (r : Record) → Ok (Some r) ≡ answered xs e → ys ≡ rest xs → e' ≡ e → Given m a b r (Ok tt) → Reads m a b xs ys e e' 1 1 Limit
+  one_added a b xs ys e e' r h left same given = let is = some_next xs e r h in rw (is, left, same) (go (rest xs))
     where
-      none : (front : List Record) (r : Record) (back : List Record) → [] ≡ front ++ (r ∷ back) → Accepts (steps m a front) r
-      none [] r back h = absurd (nil_cons r back h)
-      none (f ∷ front) r back h = absurd (nil_cons f (front ++ (r ∷ back)) h)
+      go : (zs : List Record) → Reads m a b (r ∷ zs) zs e e 1 1 Limit
+      go zs = record { enough = omega arith; each = one; left = given.1; ending = refl; stops = limited refl refl refl }
+        where
+          one : (front : List Record) (q : Record) (back : List Record) → r ∷ [] ≡ front ++ (q ∷ back) → Accepts (steps m a front) q
+          one [] q back z = let same : r ≡ q = cc in subst (λ x. Accepts a x) same given.0
+          one (f ∷ []) q back z = absurd (cc)
+          one (f ∷ g ∷ front) q back z = absurd (cc)
+
+  -- the next record is rejected
+  pub one_refused : (a b : Held M) (xs ys : List Record) (e e' : Ending) (r : Record) (x : Rejection) → Ok (Some r) ≡ answered xs e → ys ≡ rest xs → e' ≡ e → Given m a b r (Err x) → Reads m a b xs ys e e' 1 0 (Rejected x)
+  one_refused a b xs ys e e' r x h left same given = let is = some_next xs e r h in rw (is, left, same, given.0) (go (rest xs))
+    where
+      go : (zs : List Record) → Reads m a a (r ∷ zs) zs e e 1 0 (Rejected x)
+      go zs = record { enough = omega arith; each = none a; left = refl; ending = refl; stops = refused r x (omega arith) refl given.1 refl }
 
   -- what a reached limit leaves
-  pub left_over : {k : ℕ} {a : Held M} {others now : List Record} {e : Ending} → Stops a k k others now e Limit → now ≡ others
-  left_over (limited h is z) = z
-  left_over (ended below h is z) = absurd (omega arith)
-  left_over (refused r x below h j is) = absurd (omega arith)
+  left_over : {k : ℕ} {a : Held M} {others now : List Record} {e : Ending} → Stops a k k others now e Limit → now ≡ others
+  left_over h = grind arith
 
-  module _ (a b : Held M) (xs now : List Record) (e e' : Ending) (k : ℕ) (h : Reads m a b xs now e e' k k Limit) where
-    -- one record more
-    pub under_way_more : (c : Held M) (r : Record) (j : ℕ) → j ≡ suc k → now ≡ r ∷ rest now → Accepts b r × (c ≡ step m b r) → Reads m a c xs (rest now) e e' j j Limit
-    under_way_more c r j up is g =
-        let over : now ≡ drop k xs = left_over h.stops in
-        let next = take_next k xs r (rest now) (sym over ∙ is) in
-        let long : suc (length (rest now)) ≡ length xs - k = sym (ap length is) ∙ ap length over ∙ length-drop k xs in
-        let here : Accepts (steps m a (take k xs)) r = subst (λ (z : Held M). Accepts z r) h.left g.0 in
-        subst (λ (i : ℕ). Reads m a c xs (rest now) e e' i i Limit) (sym up)
-        (record {
-          enough = omega arith;
-          each = λ front q back z. ⊎_elim
-              (λ last. subst (λ (f : List Record). Accepts (steps m a f) q) (sym last.0) (subst (λ (p : Record). Accepts (steps m a (take k xs)) p) (sym last.1) here))
-              (λ some. h.each front q some.0 some.1)
-              (snoc_split (take k xs) r front q back (sym next.0 ∙ z));
-          left = g.1 ∙ ap (λ (z : Held M). step m z r) h.left ∙ sym (steps_more a (take k xs) r) ∙ ap (steps m a) (sym next.0);
-          ending = h.ending;
-          stops = limited refl refl (sym next.1);
-        })
+  -- the same reason, of the whole
+  moved : {a : Held M} {here there rest' : List Record} {e e' : Ending} {k n : ℕ} {stop : Stop} (j : ℕ) → here ≡ there → e' ≡ e → Stops a k n here rest' e' stop → Stops a (j + k) (j + n) there rest' e stop
+  moved j same ending (limited h is z) = limited (omega arith) is (z ∙ same)
+  moved j same ending (ended below h is z) = ended (omega arith) (sym same ∙ h) (is ∙ ap stop_at ending) z
+  moved j same ending (refused r x below h i is) = refused r x (omega arith) (sym same ∙ h) i is
 
-    -- the source is at its ending
-    pub under_way_ended : (limit : ℕ) (stop : Stop) → k < limit → now ≡ [] → stop ≡ stop_at e' → Reads m a b xs (rest now) e e' limit k stop
-    under_way_ended limit stop below is s =
-        let over : now ≡ drop k xs = left_over h.stops in
-        record {
-          enough = h.enough;
-          each = h.each;
-          left = h.left;
-          ending = h.ending;
-          stops = ended below (sym over ∙ is) (s ∙ ap stop_at h.ending) (ap rest is);
-        }
+  -- a read-in that its limit stopped, and one that follows it
+  pub in_a_row : {a b c : Held M} {xs ys zs : List Record} {e e' e'' : Ending} {j k n : ℕ} {stop : Stop} → Reads m a b xs ys e e' j j Limit → Reads m b c ys zs e' e'' k n stop → Reads m a c xs zs e e'' (j + k) (j + n) stop
+  in_a_row {a} {b} {c} {xs} {ys} {zs} {e} {e'} {e''} {j} {k} {n} {stop} p q =
+      let over : ys ≡ drop j xs = left_over p.stops in
+      let taken : take (j + n) xs ≡ take j xs ++ take n ys = take-add j n xs ∙ ap (λ z. take j xs ++ take n z) (sym over) in
+      let onward : (rs : List Record) → steps m b rs ≡ steps m a (take j xs ++ rs) = λ rs. ap (λ z. steps m z rs) p.left ∙ sym (fold-append (step m) a (take j xs) rs) in
+      record {
+        enough = omega (arith, p.enough, q.enough, ap length over, length-drop j xs);
+        each = λ front r back h. ⊎_elim
+            (λ s. p.each front r s.0 s.1)
+            (λ s. subst (λ z. Accepts z r) (onward s.0 ∙ ap (steps m a) (sym s.1)) (q.each s.0 r back s.2))
+            (split (take j xs) (take n ys) front r back (sym taken ∙ h));
+        left = q.left ∙ onward (take n ys) ∙ ap (steps m a) (sym taken);
+        ending = q.ending ∙ p.ending;
+        stops = moved j (ap (drop n) over ∙ drop-drop n j xs) p.ending q.stops;
+      }
 
-    -- the summary rejects
-    pub under_way_refused : (c : Held M) (r : Record) (x : Rejection) (limit : ℕ) → k < limit → now ≡ r ∷ rest now → (c ≡ b) × Refuses b r x → Reads m a c xs (rest now) e e' limit k (Rejected x)
-    under_way_refused c r x limit below is g =
-        let over : now ≡ drop k xs = left_over h.stops in
-        record {
-          enough = h.enough;
-          each = h.each;
-          left = g.0 ∙ h.left;
-          ending = h.ending;
-          stops = refused r x below (sym over ∙ is) (subst (λ (z : Held M). Refuses z r x) (sym g.0) g.1) refl;
-        }
+  -- what stopped a read-in below its limit stops it below another
+  relimited : {a : Held M} {rest rest' : List Record} {e : Ending} {k l n : ℕ} {stop : Stop} → n < k → n < l → Stops a k n rest rest' e stop → Stops a l n rest rest' e stop
+  relimited below here (limited h is z) = absurd (omega arith)
+  relimited below here (ended _ h is z) = ended here h is z
+  relimited below here (refused r x _ h j is) = refused r x here h j is
 
-  -- the source that is left, as the code has it
-  pub renamed : (a b : Held M) (xs now now' : List Record) (e e₁ e₂ : Ending) (limit count : ℕ) (stop : Stop) → now' ≡ now → e₂ ≡ e₁ → Reads m a b xs now e e₁ limit count stop → Reads m a b xs now' e e₂ limit count stop
-  renamed a b xs now now' e e₁ e₂ limit count stop p q h = rw (p, q) h
+  -- one more record was not to be had
+  pub stopped_there : {a b c : Held M} {xs ys zs : List Record} {e e' e'' : Ending} {j limit : ℕ} {stop : Stop} → j < limit → Reads m a b xs ys e e' j j Limit → Reads m b c ys zs e' e'' 1 0 stop → Reads m a c xs zs e e'' limit j stop
+  stopped_there {a} {b} {c} {xs} {ys} {zs} {e} {e'} {e''} {j} {limit} {stop} below p q =
+      let both : Reads m a c xs zs e e'' (j + 1) j stop = rw add-zero at (in_a_row p q) in
+      record { enough = both.enough; each = both.each; left = both.left; ending = both.ending; stops = relimited (omega arith) below both.stops }

@@ -1,7 +1,7 @@
 -- What a read-in was given fixes what it answers and what it leaves. Assumes nothing.
 use Rattle.std.specs.Prelude.{◌≡◌, ℕ, List}
 use Rattle.trace.specs.declared.record.Record.{Record}
-use Rattle.trace.specs.declared.fault.Ending.{Ending}
+use Rattle.trace.specs.Sources.{Ending}
 use Rattle.metrics.specs.Measures.{Measure}
 use Rattle.rows.specs.declared.rejection.Rejection.TheVariants.{OutOfRange}
 use Rattle.profile.specs.declared.reading.Stop.{Stop}

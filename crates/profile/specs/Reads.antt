@@ -1,8 +1,7 @@
 -- What a read-in adds, where it stops and what it leaves of its source. Assumes nothing.
-use Rattle.std.specs.Prelude.{◌≡◌, ℕ, ◌<◌, ◌≤◌, List, [], ◌∷◌, ◌++◌, length, take, drop}
+use Rattle.std.specs.Prelude.{◌≡◌, ℕ, ◌<◌, ◌≤◌, List, [], ◌∷◌, ◌++◌, length, take, drop, fold, Ok, Err, Result}
 use Rattle.trace.specs.declared.record.Record.{Record}
-use Rattle.trace.specs.declared.fault.Ending.{Ending}
-use Rattle.trace.specs.declared.fault.Ending.TheVariants.{End as AtEnd, Broken}
+use Rattle.trace.specs.Sources.{Ending}
 use Rattle.rows.specs.declared.rejection.Rejection.{Rejection}
 use Rattle.profile.specs.declared.reading.Stop.{Stop}
 use Rattle.profile.specs.declared.reading.Stop.TheVariants.{Limit, End, Faulted, Rejected}
@@ -11,12 +10,12 @@ use Rattle.profile.specs.Given.{Held, step, Accepts, Refuses}
 
 -- several records more
 abbrev pub steps : {M : Type 0} → Measure M → Held M → List Record → Held M
-steps m a [] = a
-steps m a (r ∷ rs) = steps m (step m a r) rs
+steps m = fold (step m)
 
+-- how a read-in stops that meets the ending
 abbrev pub stop_at : Ending → Stop
-stop_at AtEnd = End
-stop_at (Broken f) = Faulted f
+stop_at (Ok _) = End
+stop_at (Err f) = Faulted f
 
 -- Why a read-in stopped that added count records and left the summary a, where the source then had rest: the limit was reached; else the
 -- source was at its ending; else a rejects the next record, which has left the source.
@@ -33,3 +32,8 @@ pub record Reads {M : Type 0} (m : Measure M) (a b : Held M) (records records' :
   pub left : b ≡ steps m a (take count records)
   pub ending : e' ≡ e
   pub stops : Stops b limit count (drop count records) records' e stop
+
+-- One record is added, or what stopped that: a read-in of limit 1.
+abbrev pub ReadsOne : {M : Type 0} → Measure M → Held M → Held M → List Record → List Record → Ending → Ending → Result (Unit {0}) Stop → Type 0
+ReadsOne m a b records records' e e' (Ok _) = Reads m a b records records' e e' 1 1 Limit
+ReadsOne m a b records records' e e' (Err stop) = Reads m a b records records' e e' 1 0 stop

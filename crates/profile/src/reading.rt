@@ -1,8 +1,9 @@
 // Reading a source into a summary.
 ghost use Rattle.std.specs.Prelude.{◌≡◌};
 ghost use Rattle.profile.specs.View.{view};
-ghost use Rattle.profile.specs.Reads.{Reads};
+ghost use Rattle.profile.specs.Reads.{Reads, ReadsOne};
 ghost use Rattle.profile.specs.Fixed.{ReadsFixed, NeverOutOfRange};
+ghost use Rattle.profile.specs.declared.reading.Stop.TheVariants.{Faulted, Rejected};
 
 use crate::summary::Summary;
 use metrics::metric::Metric;
@@ -23,12 +24,37 @@ pub enum Stop {
     Rejected(Rejection),
 }
 
+impl From<Fault> for Stop {
+    ghost from_gives = { λ fault stop. stop ≡ Faulted fault };
+
+    fn from(fault: Fault) -> Stop {
+        Stop::Faulted(fault)
+    }
+}
+
+impl From<Rejection> for Stop {
+    ghost from_gives = { λ rejection stop. stop ≡ Rejected rejection };
+
+    fn from(rejection: Rejection) -> Stop {
+        Stop::Rejected(rejection)
+    }
+}
+
 // What a read-in answers.
 #[derive(Clone, Copy, PartialEq, Eq, Debug)]
 pub struct ReadIn {
     // how many records were added
     pub added: usize,
     pub stop: Stop,
+}
+
+// Adds the next record of the source to the summary, or says what stopped that.
+fn read_one<S: Source, M: Metric>(source: &mut S, summary: &mut Summary<'_, M>) -> Result<(), Stop>
+    ensures { ReadsOne M.Metric.measure (view M.Metric.measure M.Metric.means summary.old) (view M.Metric.measure M.Metric.means summary.new) (S.Source.records source.old) (S.Source.records source.new) (S.Source.ending source.old) (S.Source.ending source.new) result }
+{
+    let record = source.next()?.ok_or(Stop::End)?;
+    summary.add(record)?;
+    Ok(())
 }
 
 // Adds records of the source to the summary until the limit is reached, the source ends or the summary rejects.
@@ -40,28 +66,13 @@ pub fn read_in<S: Source, M: Metric>(
     ensures reads { Reads M.Metric.measure (view M.Metric.measure M.Metric.means summary.old) (view M.Metric.measure M.Metric.means summary.new) (S.Source.records source.old) (S.Source.records source.new) (S.Source.ending source.old) (S.Source.ending source.new) limit result.added result.stop }
     ensures ranged { NeverOutOfRange result.stop }
 {
-    let mut added = 0;
-    while added < limit {
-        match source.next() {
-            Ok(Some(record)) => match summary.add(record) {
-                Ok(()) => added += 1,
-                Err(rejection) => return ReadIn {
-                    added,
-                    stop: Stop::Rejected(rejection),
-                },
-            },
-            Ok(None) => return ReadIn {
-                added,
-                stop: Stop::End,
-            },
-            Err(fault) => return ReadIn {
-                added,
-                stop: Stop::Faulted(fault),
-            },
+    for added in 0..limit {
+        if let Err(stop) = read_one(source, summary) {
+            return ReadIn { added, stop };
         }
     }
     ReadIn {
-        added,
+        added: limit,
         stop: Stop::Limit,
     }
 }

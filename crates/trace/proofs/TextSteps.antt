@@ -4,12 +4,10 @@ use Rattle.std.proofs.lemmas.List.{drop_all, at_drop_more}
 use Rattle.std.proofs.lemmas.Bool.{cases_lt}
 use Rattle.trace.specs.Faults.{fault_at}
 use Rattle.trace.specs.Pieces.{pieces, first}
-use Rattle.trace.specs.Sources.{answered, rest}
+use Rattle.trace.specs.Sources.{Ending, answered, rest}
 use Rattle.trace.specs.Text.{line_record, at_place, record_then, ending_then, line_records, line_ending, text_records, text_ending}
 use Rattle.trace.specs.declared.fault.Cause.{Cause}
 use Rattle.trace.specs.declared.fault.Fault.{Fault}
-use Rattle.trace.specs.declared.fault.Ending.{Ending}
-use Rattle.trace.specs.declared.fault.Ending.TheVariants.{End}
 use Rattle.trace.specs.declared.record.Record.{Record}
 use Rattle.trace.proofs.Cutting.{first_onto, next_some, next_none}
 
@@ -71,7 +69,7 @@ pub at_end : (xs : List ℕ) (i : ℕ) (rs : List Record) (e : Ending) → lengt
 at_end xs i rs e h p q =
     let none = drop_all i xs h in
     let p' : rs ≡ [] = sym p ∙ ap text_records none in
-    let q' : e ≡ End = sym q ∙ ap (text_ending i) none in
+    let q' : e ≡ Ok tt = sym q ∙ ap (text_ending i) none in
     rw (p', q') (record { answer = refl; rest = refl; ending = refl })
 
 -- the line is at fault

@@ -2,12 +2,10 @@
 use Rattle.std.specs.Prelude.{ℕ, List, [], ◌∷◌, Ok, Err, Result}
 use Rattle.trace.specs.Faults.{fault_at}
 use Rattle.trace.specs.Ranges.{in_range, InRange}
-use Rattle.trace.specs.Sources.{Every}
+use Rattle.trace.specs.Sources.{Ending, Every}
 use Rattle.trace.specs.Text.{checked}
 use Rattle.trace.specs.TextRanged.{Good, checked_good}
 use Rattle.trace.specs.declared.fault.Cause.{Cause}
-use Rattle.trace.specs.declared.fault.Ending.{Ending}
-use Rattle.trace.specs.declared.fault.Ending.TheVariants.{End, Broken}
 use Rattle.trace.specs.declared.fault.Fault.{Fault}
 use Rattle.trace.specs.declared.record.Record.{Record}
 
@@ -18,13 +16,13 @@ pub record Meaning : Type 0 where
 
 -- no record, and the end
 abbrev pub nothing : Meaning
-nothing = record { records = []; ending = End }
+nothing = record { records = []; ending = Ok tt }
 
 -- What is read at place p, and what follows it: a record goes before the records that follow; a cause is the fault at p, in which the
 -- input ends, whatever follows.
 abbrev pub followed : Result Record Cause → ℕ → Meaning → Meaning
 followed (Ok r) p m = record { records = r ∷ m.records; ending = m.ending }
-followed (Err c) p m = record { records = []; ending = Broken (fault_at c p) }
+followed (Err c) p m = record { records = []; ending = Err (fault_at c p) }
 
 -- what is read, whatever it is, a cause being the fault at place p
 abbrev pub found_at : {X : Type 0} → Result X Cause → ℕ → Result X Fault

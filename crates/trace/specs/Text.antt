@@ -4,12 +4,10 @@ use Rattle.std.specs.Str.{bytes_eq}
 use Rattle.trace.specs.Faults.{fault_at}
 use Rattle.trace.specs.Pieces.{pieces}
 use Rattle.trace.specs.Ranges.{from_to}
-use Rattle.trace.specs.Sources.{rest}
+use Rattle.trace.specs.Sources.{Ending, rest}
 use Rattle.trace.specs.Words.{words, is_digits}
 use Rattle.trace.specs.declared.fault.Cause.{Cause}
 use Rattle.trace.specs.declared.fault.Cause.TheVariants.{CutShort, TooLarge, UnknownKind, OutOfRange, BadField}
-use Rattle.trace.specs.declared.fault.Ending.{Ending}
-use Rattle.trace.specs.declared.fault.Ending.TheVariants.{End, Broken}
 use Rattle.trace.specs.declared.fault.Fault.{Fault}
 use Rattle.trace.specs.declared.line.Kind.{Kind}
 use Rattle.trace.specs.declared.line.Kind.TheVariants.{Call as IsCall, Back, Unwind as IsUnwind, Sample as IsSample}
@@ -105,7 +103,7 @@ record_then (Err c) rs = []
 -- the ending after a line at place p; a line at fault is the ending
 abbrev pub ending_then : Result Record Cause → ℕ → Ending → Ending
 ending_then (Ok r) p e = e
-ending_then (Err c) p e = Broken (fault_at c p)
+ending_then (Err c) p e = Err (fault_at c p)
 
 -- The records of lines. An empty line is skipped.
 abbrev pub line_records : List (List ℕ) → List Record
@@ -115,7 +113,7 @@ line_records ((b ∷ bs) ∷ ls) = record_then (line_record (b ∷ bs)) (line_re
 
 -- The ending after lines of which the first begins at place p.
 abbrev pub line_ending : ℕ → List (List ℕ) → Ending
-line_ending p [] = End
+line_ending p [] = Ok tt
 line_ending p ([] ∷ ls) = line_ending (p + 1) ls
 line_ending p ((b ∷ bs) ∷ ls) = ending_then (line_record (b ∷ bs)) p (line_ending (p + length (b ∷ bs) + 1) ls)
 

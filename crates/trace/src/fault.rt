@@ -54,12 +54,8 @@ pub struct Fault {
     pub passed: u8,
 }
 
-// What comes after the last record of a source.
-#[derive(Clone, Copy, PartialEq, Eq, Debug)]
-pub enum Ending {
-    End,
-    Broken(Fault),
-}
+// What comes after the last record of a source: the end, or the fault.
+pub type Ending = Result<(), Fault>;
 
 // What was read, whatever it is, a cause as the fault at `place`.
 pub fn placed<T>(read: Result<T, Cause>, place: usize) -> Result<T, Fault>

@@ -1,9 +1,8 @@
 // What a source is: a list of records still to come, and what comes after them.
 ghost use Rattle.std.specs.Prelude.{◌≡◌, List};
 ghost use Rattle.trace.specs.declared.record.Record.{Record};
-ghost use Rattle.trace.specs.declared.fault.Ending.{Ending};
 ghost use Rattle.trace.specs.Ranges.{InRange};
-ghost use Rattle.trace.specs.Sources.{Every, answered, rest};
+ghost use Rattle.trace.specs.Sources.{Ending, Every, answered, rest};
 
 use crate::fault::Fault;
 use crate::record::Record;

@@ -3,7 +3,8 @@
 
 #![tactic(auto)]
 
-use std::alloc::{AllocError, Global};
+ghost use Rattle.std.specs.Prelude.{◌<◌};
+
 use std::{fmt, io};
 use trace::fault::{Ending, Fault};
 use trace::record::{Record, Sample};
@@ -110,22 +111,13 @@ impl fmt::Display for Outcome {
         let digest = self.digest;
         match self.ending {
             None => write!(f, "{records}, no ending, {digest}"),
-            Some(Ending::End) => write!(f, "{records}, end, {digest}"),
-            Some(Ending::Broken(fault)) => {
+            Some(Ok(())) => write!(f, "{records}, end, {digest}"),
+            Some(Err(fault)) => {
                 let cause = fault.cause.number();
                 let place = fault.place;
                 write!(f, "{records}, cause {cause} at {place}, {digest}")
             }
         }
-    }
-}
-
-// The ending, if that is the answer.
-fn ending_of(answer: Result<Option<Record>, Fault>) -> Option<Ending> {
-    match answer {
-        Ok(Some(_)) => None,
-        Ok(None) => Some(Ending::End),
-        Err(fault) => Some(Ending::Broken(fault)),
     }
 }
 
@@ -136,37 +128,23 @@ fn read_out<S: Source>(source: &mut S, bytes: usize) -> Outcome {
     for records in 0..=bytes {
         let answer = source.next();
         digest.put_answer(answer);
-        let ending = ending_of(answer);
-        if ending.is_some() {
-            digest.put_answer(source.next());
-            digest.put_answer(source.next());
-            return Outcome {
-                records,
-                ending,
-                digest,
-            };
-        }
+        let ending = match answer {
+            Ok(Some(_)) => continue,
+            Ok(None) => Ok(()),
+            Err(fault) => Err(fault),
+        };
+        digest.put_answer(source.next());
+        digest.put_answer(source.next());
+        return Outcome {
+            records,
+            ending: Some(ending),
+            digest,
+        };
     }
     Outcome {
         records: bytes.saturating_add(1),
         ending: None,
         digest,
-    }
-}
-
-// How a trace is written.
-#[derive(Clone, Copy)]
-enum Format {
-    Bytes,
-    Text,
-}
-
-impl Format {
-    fn read(self, trace: &[u8]) -> Outcome {
-        match self {
-            Format::Bytes => read_out(&mut ByteSource::new(trace), trace.len()),
-            Format::Text => read_out(&mut TextSource::new(trace), trace.len()),
-        }
     }
 }
 
@@ -183,8 +161,8 @@ impl Tally {
 
     fn count(&mut self, ending: Ending) {
         let index = match ending {
-            Ending::End => 0,
-            Ending::Broken(fault) => usize::from(fault.cause.number()),
+            Ok(()) => 0,
+            Err(fault) => usize::from(fault.cause.number()),
         };
         if let Some(count) = self.counts.get_mut(index) {
             *count = count.saturating_add(1);
@@ -200,56 +178,70 @@ impl fmt::Display for Tally {
 }
 
 // The trace with this byte at the place.
-fn with_byte(heap: Global, trace: &[u8], place: usize, byte: u8) -> Result<Vec<u8>, AllocError> {
-    let mut changed = trace.to_vec(heap)?;
-    if let Some(at_place) = changed.get_mut(place) {
-        *at_place = byte;
-    }
-    Ok(changed)
+fn with_byte<const N: usize>(trace: &[u8; N], place: usize, byte: u8) -> [u8; N]
+    requires { place < N }
+{
+    let mut changed = *trace;
+    changed[place] = byte;
+    changed
 }
 
-// A line for each length that a trace can be cut to.
-fn print_prefixes(rt: &HostRuntime, format: Format, trace: &[u8]) -> io::Result<()> {
-    for length in 0..=trace.len() {
-        let outcome = format.read(&trace[..length]);
-        println!(rt; "{length}: {outcome}")?;
-    }
-    Ok(())
-}
-
-// A line for a place of the trace, of all 256 bytes that can stand there.
-fn print_change(rt: &HostRuntime, format: Format, trace: &[u8], place: usize) -> io::Result<()> {
+// What comes of the 256 bytes that can stand at a place of the trace: to which endings they come, and a digest of all outcomes.
+fn read_changed<F: Fn(&[u8]) -> Outcome, const N: usize>(
+    read: &F,
+    trace: &[u8; N],
+    place: usize,
+) -> (Tally, Digest)
+    requires callable { F.IsAlwaysCallable read.now }
+    requires within { place < N }
+{
     let mut tally = Tally::new();
     let mut digest = Digest::new();
     for byte in 0..=255 {
-        let outcome = format.read(&with_byte(rt.alloc(), trace, place, byte)?);
+        let outcome = read(&with_byte(trace, place, byte));
         digest.put(outcome.digest.value);
         if let Some(ending) = outcome.ending {
             tally.count(ending);
         }
     }
-    println!(rt; "{place}: {tally}, {digest}")
+    (tally, digest)
 }
 
-// A line for each place of the trace.
-fn print_changes(rt: &HostRuntime, format: Format, trace: &[u8]) -> io::Result<()> {
-    for place in 0..trace.len() {
-        print_change(rt, format, trace, place)?;
+// All damage that is done to a trace: a line for each length that it can be cut to, and one for each of its places.
+fn print_damage<F: Fn(&[u8]) -> Outcome, const N: usize>(
+    rt: &HostRuntime,
+    name: &str,
+    read: F,
+    trace: &[u8; N],
+) -> io::Result<()>
+    requires { F.IsAlwaysCallable read }
+{
+    println!(rt; "{name}, prefixes: length, records, ending, digest")?;
+    for length in 0..=N {
+        let outcome = read(&trace[..length]);
+        println!(rt; "{length}: {outcome}")?;
+    }
+    println!(rt;
+        "{name}, changes: place, how many of 256 came to the end and to causes 1 to 5, digest"
+    )?;
+    for place in 0..N {
+        let (tally, digest) = read_changed(&read, trace, place);
+        println!(rt; "{place}: {tally}, {digest}")?;
     }
     Ok(())
 }
 
-// All damage that is done to a trace.
-fn print_damage(rt: &HostRuntime, name: &str, format: Format, trace: &[u8]) -> io::Result<()> {
-    println!(rt; "{name}, prefixes: length, records, ending, digest")?;
-    print_prefixes(rt, format, trace)?;
-    println!(rt;
-        "{name}, changes: place, how many of 256 came to the end and to causes 1 to 5, digest"
-    )?;
-    print_changes(rt, format, trace)
-}
-
 fn main(rt: HostRuntime) -> io::Result<()> {
-    print_damage(&rt, "bytes", Format::Bytes, BYTES)?;
-    print_damage(&rt, "text", Format::Text, TEXT)
+    print_damage(
+        &rt,
+        "bytes",
+        |trace| read_out(&mut ByteSource::new(trace), trace.len()),
+        BYTES,
+    )?;
+    print_damage(
+        &rt,
+        "text",
+        |trace| read_out(&mut TextSource::new(trace), trace.len()),
+        TEXT,
+    )
 }

@@ -1,9 +1,8 @@
 -- The digest of what a trace means: one number, which each field of each record takes part in. Assumes nothing.
-use Rattle.std.specs.Prelude.{List, [], ◌∷◌, ℕ, ◌+◌, ◌*◌, ◌^◌, ◌%◌}
+use Rattle.std.specs.Prelude.{List, [], ◌∷◌, Ok, Err, ℕ, ◌+◌, ◌*◌, ◌^◌, ◌%◌}
 use Rattle.trace.specs.Faults.{number}
 use Rattle.trace.specs.Meanings.{Meaning}
-use Rattle.trace.specs.declared.fault.Ending.{Ending}
-use Rattle.trace.specs.declared.fault.Ending.TheVariants.{End, Broken}
+use Rattle.trace.specs.Sources.{Ending}
 use Rattle.trace.specs.declared.fault.Fault.{Fault}
 use Rattle.trace.specs.declared.record.Record.{Record}
 use Rattle.trace.specs.declared.record.Record.TheVariants.{Call, Return, Unwind, Sample}
@@ -25,8 +24,8 @@ faulted sum f = mixed (mixed sum (number f.cause)) f.place
 
 -- the sum where no record is left
 abbrev pub ended : ℕ → Ending → ℕ
-ended sum End = sum
-ended sum (Broken f) = faulted sum f
+ended sum (Ok _) = sum
+ended sum (Err f) = faulted sum f
 
 -- the sum with these records, from the first on, and then the ending
 abbrev pub digest_from : ℕ → List Record → Ending → ℕ

@@ -1,10 +1,10 @@
 -- What a text means line by line, as one recursion, which the laws are proved of. Assumes nothing.
 use Rattle.std.proofs.Common.{◌≡◌, ℕ, ◌+◌, List, [], ◌∷◌, length, Ok, Err, Result, refl, ap, ◌∙◌}
 use Rattle.trace.specs.Meanings.{Meaning, nothing, followed}
+use Rattle.trace.specs.Sources.{Ending}
 use Rattle.trace.specs.Text.{line_record, lines, record_then, ending_then, line_records, line_ending}
 use Rattle.trace.specs.TextMeaning.{text_meaning}
 use Rattle.trace.specs.declared.fault.Cause.{Cause}
-use Rattle.trace.specs.declared.fault.Ending.{Ending}
 use Rattle.trace.specs.declared.record.Record.{Record}
 
 -- What lines mean, of which the first begins at place p. An empty line is skipped; the byte after a line is its end.

@@ -2,9 +2,9 @@
 use Rattle.std.proofs.Common.{◌≡◌, ℕ, zero, suc, ◌+◌, ◌-◌, ◌<◌, ◌≤◌, List, [], ◌∷◌, ◌++◌, length, take, Ok, Err, Result, sym, refl, ap, ◌∙◌, arith}
 use Rattle.trace.specs.Faults.{fault_at}
 use Rattle.trace.specs.Meanings.{Meaning}
+use Rattle.trace.specs.Sources.{Ending}
 use Rattle.trace.specs.declared.fault.Cause.{Cause}
 use Rattle.trace.specs.declared.fault.Cause.TheVariants.{CutShort}
-use Rattle.trace.specs.declared.fault.Ending.TheVariants.{End, Broken}
 use Rattle.trace.specs.declared.fault.Fault.{Fault}
 use Rattle.trace.specs.declared.record.Record.{Record}
 use Rattle.trace_bytes.specs.Bytes.{record_of, record_then, meaning_past}
@@ -13,11 +13,11 @@ use Rattle.trace_laws.specs.Writing.{whole}
 use Rattle.trace_laws.proofs.ByteReading.{record_steady}
 
 -- the end is no fault
-no_fault : (f : Fault) → End ≡ Broken f → ⊥
+no_fault : (f : Fault) → ◌≡◌ {A = Ending} (Ok tt) (Err f) → ⊥
 no_fault f e = let z : ◌≡◌ {A = ℕ} 0 1 = cc in omega arith
 
 -- a fault that arises at p
-fault_is : (c : Cause) (p : ℕ) (f : Fault) → Broken (fault_at c p) ≡ Broken f → fault_at c p ≡ f
+fault_is : (c : Cause) (p : ℕ) (f : Fault) → ◌≡◌ {A = Ending} (Err (fault_at c p)) (Err f) → fault_at c p ≡ f
 fault_is c p f e = cc
 
 -- what follows the byte of a record's kind at place p, past n bytes of its fields
@@ -26,7 +26,7 @@ following p bs n = meaning_past n (p + 1) bs
 
 -- a meaning that ends in this fault
 abbrev Faulty : Meaning → Fault → Type 0
-Faulty m f = m.ending ≡ Broken f
+Faulty m f = m.ending ≡ Err f
 
 -- The place of a fault lies past the n bytes of the record before, and within the bytes.
 abbrev Between : ℕ → ℕ → List ℕ → Fault → Type 0

@@ -6,7 +6,6 @@ use Rattle.trace.specs.Ranges.{in_range, InRange}
 use Rattle.trace.specs.Sources.{Every}
 use Rattle.trace.specs.Tables.{table_meaning, table_ranged}
 use Rattle.trace.specs.declared.fault.Cause.TheVariants.{OutOfRange}
-use Rattle.trace.specs.declared.fault.Ending.TheVariants.{Broken}
 use Rattle.trace.specs.declared.fault.Fault.{Fault}
 use Rattle.trace.specs.declared.record.Record.{Record}
 use Rattle.trace_laws.specs.TableLaws.{TableRead, TableWithin, TableFront, TableBefore, TableAfter}
@@ -27,7 +26,7 @@ pub record Found (p : ℕ) (rs : List Record) (f : Fault) (m m' : Meaning) : Typ
   pub after : m' ≡ m
 
 -- one record and the rest; t says whether the record is in range
-found_then : (t : Bool) (p : ℕ) (r : Record) (rs : List Record) (f : Fault) (m m' : Meaning) → (m.ending ≡ Broken f → Found (p + 1) rs f m m') → (followed (cond t (Ok r) (Err OutOfRange)) p m).ending ≡ Broken f → Found p (r ∷ rs) f (followed (cond t (Ok r) (Err OutOfRange)) p m) (followed (cond t (Ok r) (Err OutOfRange)) p m')
+found_then : (t : Bool) (p : ℕ) (r : Record) (rs : List Record) (f : Fault) (m m' : Meaning) → (m.ending ≡ Err f → Found (p + 1) rs f m m') → (followed (cond t (Ok r) (Err OutOfRange)) p m).ending ≡ Err f → Found p (r ∷ rs) f (followed (cond t (Ok r) (Err OutOfRange)) p m) (followed (cond t (Ok r) (Err OutOfRange)) p m')
 found_then true p r rs f m m' rest h =
     let k = rest h in
     let n : f.place - p ≡ suc (f.place - (p + 1)) = omega (arith, k.above) in
@@ -38,7 +37,7 @@ found_then false p r rs f m m' rest h =
     let n : f.place - p ≡ 0 = omega arith in
     record { above = omega arith; within = omega arith; before = rw n; after = refl }
 
-found : (p : ℕ) (rs more : List Record) (f : Fault) → (table_meaning p rs).ending ≡ Broken f → Found p rs f (table_meaning p rs) (table_meaning p (rs ++ more))
+found : (p : ℕ) (rs more : List Record) (f : Fault) → (table_meaning p rs).ending ≡ Err f → Found p rs f (table_meaning p rs) (table_meaning p (rs ++ more))
 found p [] more f h = absurd (let z : ◌≡◌ {A = ℕ} 0 1 = cc in omega arith)
 found p (r ∷ rs) more f h = found_then (in_range r) p r rs f (table_meaning (p + 1) rs) (table_meaning (p + 1) (rs ++ more)) (found (p + 1) rs more f) h
 

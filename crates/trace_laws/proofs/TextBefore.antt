@@ -4,7 +4,6 @@ use Rattle.std.proofs.lemmas.List.{take_all}
 use Rattle.trace.specs.Meanings.{Meaning, followed}
 use Rattle.trace.specs.Text.{line_record, lines}
 use Rattle.trace.specs.declared.fault.Cause.{Cause}
-use Rattle.trace.specs.declared.fault.Ending.TheVariants.{Broken}
 use Rattle.trace.specs.declared.fault.Fault.{Fault}
 use Rattle.trace.specs.declared.record.Record.{Record}
 use Rattle.trace_laws.proofs.ByLines.{lines_meaning, by_lines}
@@ -16,7 +15,7 @@ use Rattle.trace_laws.specs.Writing.{whole}
 abbrev Before : ℕ → ℕ → Meaning → Meaning → Fault → Type 0
 Before p q m n f = ((f.place ≡ p) × (m.records ≡ [])) ⊎ ((q ≤ f.place) × (n ≡ whole m.records))
 
-followed_before : (r : Result Record Cause) (p q : ℕ) (m n : Meaning) (f : Fault) → (m.ending ≡ Broken f → (q ≤ f.place) × (n ≡ whole m.records)) → (followed r p m).ending ≡ Broken f → Before p q (followed r p m) (followed r p n) f
+followed_before : (r : Result Record Cause) (p q : ℕ) (m n : Meaning) (f : Fault) → (m.ending ≡ Err f → (q ≤ f.place) × (n ≡ whole m.records)) → (followed r p m).ending ≡ Err f → Before p q (followed r p m) (followed r p n) f
 followed_before (Ok r) p q m n f same h = inr ((same h).0, ap (followed (Ok r) p) (same h).1)
 followed_before (Err c) p q m n f same h = inl (cc, refl)
 
@@ -24,10 +23,10 @@ next_place : (p q : ℕ) → p + 0 + 1 ≡ q → p + 1 ≡ q
 next_place p q is = omega arith
 
 -- the same of a line, and of lines after it
-line_before : (p q : ℕ) (l : List ℕ) (ls ks : List (List ℕ)) (f : Fault) → p + length l + 1 ≡ q → ((lines_meaning q ls).ending ≡ Broken f → lines_meaning q ks ≡ whole (lines_meaning q ls).records) → (lines_meaning p (l ∷ ls)).ending ≡ Broken f → Before p q (lines_meaning p (l ∷ ls)) (lines_meaning p (l ∷ ks)) f
+line_before : (p q : ℕ) (l : List ℕ) (ls ks : List (List ℕ)) (f : Fault) → p + length l + 1 ≡ q → ((lines_meaning q ls).ending ≡ Err f → lines_meaning q ks ≡ whole (lines_meaning q ls).records) → (lines_meaning p (l ∷ ls)).ending ≡ Err f → Before p q (lines_meaning p (l ∷ ls)) (lines_meaning p (l ∷ ks)) f
 line_before p q [] ls ks f is same h =
     let at : (ms : List (List ℕ)) → lines_meaning p ([] ∷ ms) ≡ lines_meaning q ms = λ ms. ap (λ n. lines_meaning n ms) (next_place p q is) in
-    let g : (lines_meaning q ls).ending ≡ Broken f = ap (λ (m : Meaning). m.ending) (sym (at ls)) ∙ h in
+    let g : (lines_meaning q ls).ending ≡ Err f = ap (λ (m : Meaning). m.ending) (sym (at ls)) ∙ h in
     inr (fault_above q ls f g, at ks ∙ (same g ∙ ap (λ (m : Meaning). whole m.records) (sym (at ls))))
 line_before p q (b ∷ bs) ls ks f is same h =
     let at : (ms : List (List ℕ)) → lines_meaning p ((b ∷ bs) ∷ ms) ≡ followed (line_record (b ∷ bs)) p (lines_meaning q ms) = λ ms. ap (λ n. followed (line_record (b ∷ bs)) p (lines_meaning n ms)) is in
@@ -54,7 +53,7 @@ then_before p l more f lack (inr x) =
     let e : f.place - p ≡ length l + 1 + n = omega arith in
     rw (e, take_past n l more, pieces_line 10 l (take n more) lack) x.1
 
-pub before_cut : (p : ℕ) (text : List ℕ) (f : Fault) → Cut 10 text → (by_lines p text).ending ≡ Broken f → by_lines p (take (f.place - p) text) ≡ whole (by_lines p text).records
+pub before_cut : (p : ℕ) (text : List ℕ) (f : Fault) → Cut 10 text → (by_lines p text).ending ≡ Err f → by_lines p (take (f.place - p) text) ≡ whole (by_lines p text).records
 before_cut p text f (last l lack) h =
     let q = p + length l + 1 in
     let e = pieces_lacking 10 l lack in
@@ -64,5 +63,5 @@ before_cut p text f (then l more lack c) h =
     let e = pieces_line 10 l more lack in
     then_before p l more f lack (rw e (line_before p q l (lines more) (lines (take (f.place - q) more)) f refl (before_cut q more f c) (rw e at h)))
 
-pub by_lines_before : (text : List ℕ) (f : Fault) → (by_lines 0 text).ending ≡ Broken f → by_lines 0 (take f.place text) ≡ whole (by_lines 0 text).records
+pub by_lines_before : (text : List ℕ) (f : Fault) → (by_lines 0 text).ending ≡ Err f → by_lines 0 (take f.place text) ≡ whole (by_lines 0 text).records
 by_lines_before text f h = let e : f.place - 0 ≡ f.place = omega arith in rw e at (before_cut 0 text f (cut 10 text) h)

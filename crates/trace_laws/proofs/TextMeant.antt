@@ -1,8 +1,7 @@
 -- The laws of the text format, of what a text means, by those of what it means line by line. Assumes nothing.
-use Rattle.std.proofs.Common.{◌≡◌, ℕ, List, ◌∷◌, ◌++◌, take, sym, ap, ◌∙◌}
+use Rattle.std.proofs.Common.{◌≡◌, ℕ, List, ◌∷◌, ◌++◌, take, sym, ap, ◌∙◌, Err}
 use Rattle.trace.specs.Meanings.{Meaning}
 use Rattle.trace.specs.TextMeaning.{text_meaning}
-use Rattle.trace.specs.declared.fault.Ending.TheVariants.{Broken}
 use Rattle.trace.specs.declared.fault.Fault.{Fault}
 use Rattle.trace_laws.proofs.ByLines.{by_lines, same}
 use Rattle.trace_laws.proofs.TextBefore.{by_lines_before}
@@ -12,7 +11,7 @@ use Rattle.trace_laws.specs.TextLaws.{TextReadBack, TextWithin, TextBefore, Text
 use Rattle.trace_laws.specs.Writing.{text_of, whole}
 
 -- the same fault
-faulty : (text : List ℕ) (f : Fault) → (text_meaning 0 text).ending ≡ Broken f → (by_lines 0 text).ending ≡ Broken f
+faulty : (text : List ℕ) (f : Fault) → (text_meaning 0 text).ending ≡ Err f → (by_lines 0 text).ending ≡ Err f
 faulty text f h = ap (λ (m : Meaning). m.ending) (same 0 text) ∙ h
 
 pub text_read_back : TextReadBack

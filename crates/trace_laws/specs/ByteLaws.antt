@@ -1,9 +1,8 @@
 -- What holds of the byte format. Assumes nothing.
-use Rattle.std.specs.Prelude.{◌≡◌, ℕ, ◌<◌, List, ◌++◌, length, take, ◌≢◌}
+use Rattle.std.specs.Prelude.{◌≡◌, ℕ, ◌<◌, List, ◌++◌, length, take, ◌≢◌, Err}
 use Rattle.trace.specs.Ranges.{InRange}
 use Rattle.trace.specs.Sources.{Every}
 use Rattle.trace.specs.declared.fault.Cause.TheVariants.{CutShort}
-use Rattle.trace.specs.declared.fault.Ending.TheVariants.{Broken}
 use Rattle.trace.specs.declared.fault.Fault.{Fault}
 use Rattle.trace.specs.declared.record.Record.{Record}
 use Rattle.trace_bytes.specs.Bytes.{bytes_meaning}
@@ -15,12 +14,12 @@ BytesReadBack = (rs : List Record) → Every InRange rs → Every FitsTypes rs �
 
 -- The place of a fault lies within the input.
 abbrev pub BytesWithin : Type 0
-BytesWithin = (bs : List ℕ) (f : Fault) → (bytes_meaning 0 bs).ending ≡ Broken f → f.place < length bs
+BytesWithin = (bs : List ℕ) (f : Fault) → (bytes_meaning 0 bs).ending ≡ Err f → f.place < length bs
 
 -- What is delivered before a fault is what the bytes before its place mean, and those end there without a fault.
 abbrev pub BytesBefore : Type 0
-BytesBefore = (bs : List ℕ) (f : Fault) → (bytes_meaning 0 bs).ending ≡ Broken f → bytes_meaning 0 (take f.place bs) ≡ whole (bytes_meaning 0 bs).records
+BytesBefore = (bs : List ℕ) (f : Fault) → (bytes_meaning 0 bs).ending ≡ Err f → bytes_meaning 0 (take f.place bs) ≡ whole (bytes_meaning 0 bs).records
 
 -- Bytes with a fault mean the same whatever follows them, unless the fault is that they end inside a record.
 abbrev pub BytesAfter : Type 0
-BytesAfter = (bs more : List ℕ) (f : Fault) → (bytes_meaning 0 bs).ending ≡ Broken f → (f.cause ≢ CutShort) → bytes_meaning 0 (bs ++ more) ≡ bytes_meaning 0 bs
+BytesAfter = (bs more : List ℕ) (f : Fault) → (bytes_meaning 0 bs).ending ≡ Err f → (f.cause ≢ CutShort) → bytes_meaning 0 (bs ++ more) ≡ bytes_meaning 0 bs

@@ -1,8 +1,7 @@
 -- How records are written in each format. Assumes nothing.
-use Rattle.std.specs.Prelude.{◌≡◌, ℕ, zero, suc, ◌+◌, ◌/◌, ◌%◌, Bool, true, cond, ◌&&◌, List, [], ◌∷◌, ◌++◌, codes, decimal, nat_le, nat_lt}
+use Rattle.std.specs.Prelude.{◌≡◌, ℕ, zero, suc, ◌+◌, ◌/◌, ◌%◌, Bool, true, cond, ◌&&◌, List, [], ◌∷◌, ◌++◌, codes, decimal, nat_le, nat_lt, Ok}
 use Rattle.std.specs.List.{flat_map}
 use Rattle.trace.specs.Meanings.{Meaning}
-use Rattle.trace.specs.declared.fault.Ending.TheVariants.{End}
 use Rattle.trace.specs.declared.record.Record.{Record}
 use Rattle.trace.specs.declared.record.Record.TheVariants.{Call, Return, Unwind, Sample}
 
@@ -65,4 +64,4 @@ text_of rs = flat_map line_of rs
 
 -- these records, and then the end
 abbrev pub whole : List Record → Meaning
-whole rs = record { records = rs; ending = End }
+whole rs = record { records = rs; ending = Ok tt }

@@ -1,4 +1,3 @@
-use Rattle.std.proofs.Common.{◌-◌, ◌≤◌}
 use Rattle.profile.specs.declared.reading.Stop.TheVariants.{Limit}
 use Rattle.profile.specs.View.{view}
 use Rattle.profile.specs.Reads.{Reads}
@@ -9,7 +8,4 @@ abbrev pub invariant-loop-added : goal.invariant-loop-added
 invariant-loop-added g l =
     let m = g.M.Metric in
     let s = g.S.Source in
-    (l.added ≤ l.limit) × Reads m.measure (view m.measure m.means l.initial.summary) (view m.measure m.means l.summary) (s.records l.initial.source) (s.records l.source) (s.ending l.initial.source) (s.ending l.source) l.added l.added Limit
-
-abbrev pub decreases-loop-added : goal.decreases-loop-added
-decreases-loop-added g l = l.limit - l.added
+    Reads m.measure (view m.measure m.means l.initial.summary) (view m.measure m.means l.summary) (s.records l.initial.source) (s.records l.source) (s.ending l.initial.source) (s.ending l.source) l.added l.added Limit
