@@ -160,13 +160,9 @@ impl Tally {
     }
 
     fn count(&mut self, ending: Ending) {
-        let index = match ending {
-            Ok(()) => 0,
-            Err(fault) => usize::from(fault.cause.number()),
-        };
-        if let Some(count) = self.counts.get_mut(index) {
-            *count = count.saturating_add(1);
-        }
+        let index = ending.map_or_else(|fault| usize::from(fault.cause.number()), |()| 0);
+        let count = &mut self.counts[index];
+        *count = count.saturating_add(1);
     }
 }
 
