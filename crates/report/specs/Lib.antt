@@ -1,5 +1,6 @@
 pub mod Answer
 pub mod Fault
+pub mod Name
 pub mod Order
 pub mod Outline
 pub mod Size
