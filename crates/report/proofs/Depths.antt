@@ -1,9 +1,11 @@
 -- The depth of a row from that of its parent.
-use Rattle.std.proofs.Common.{◌≡◌, ℕ, zero, suc, ◌+◌, ◌<◌, ◌≤◌, eqb, List, length, get_or, sym, refl, ap, ◌∙◌, add-one, arith}
-use Rattle.std.proofs.lemmas.List.{get_or_read_under}
+use Rattle.std.proofs.Common.{All, ◌≡◌, ℕ, zero, suc, ◌+◌, ◌-◌, ◌<◌, ◌≤◌, eqb, List, length, get_or, take, drop, sym, refl, ap, ◌∙◌, add-one, arith}
+use Rattle.std.proofs.lemmas.List.{get_or_default, get_or_read_under, get_or-take, get_or-drop}
 use Rattle.std.proofs.lemmas.Bool.{cond-false, cond_both, ne_eqb}
+use Rattle.report.specs.declared.tree.Node.{Node}
+use Rattle.report.specs.Node.{no_node, node_at}
 use Rattle.rows.specs.declared.shape.ShapeRow.{ShapeRow}
-use Rattle.rows.specs.ShapeColumn.{IsRooted, IsShape, steps_up, depth_of, parent_at}
+use Rattle.rows.specs.ShapeColumn.{no_row, IsRooted, steps_up, depth_of, parent_at}
 
 step_up : (s : List ShapeRow) (m i : ℕ) → 0 < i → steps_up (suc m) s i ≡ suc (steps_up m s (parent_at s i))
 step_up s m i h = cond-false (eqb i 0) 0 (suc (steps_up m s (parent_at s i))) (ne_eqb i 0 (λ e. omega arith))
@@ -36,25 +38,33 @@ depth_step s t (suc i) h l =
 pub depth_few : (s : List ShapeRow) (i : ℕ) → depth_of s i ≤ i
 depth_few s i = steps_few s i i
 
--- the depth that is read for a row's parent, and one more, is the row's
-pub above_is : (s : List ShapeRow) → IsRooted s → (ds : List ℕ) (len i x : ℕ) → 0 < i → i < length s → len ≡ length ds → len ≡ i → ((k : ℕ) → k < i → get_or ds k 0 ≡ depth_of s k) → x ≡ get_or ds (parent_at s i) x → x + 1 ≡ depth_of s i
-above_is s t ds len i x h l e ei inv read =
-    let p : parent_at s i < i = t.above i h l in
-    let q : parent_at s i < len = omega arith in
-    ap (λ n. n + 1) (get_or_read_under ds (parent_at s i) len x 0 read q e ∙ inv (parent_at s i) p) ∙ sym (depth_step s t i h l)
+-- the row that is read behind row 0
+row_read : (s : List ShapeRow) (k : ℕ) → k + 1 < length s → get_or (take (length s - 1) (drop 1 s)) k no_row ≡ get_or s (k + 1) no_row
+row_read s k h =
+    let e : 1 + k ≡ k + 1 = omega arith in
+    get_or-take (length s - 1) (drop 1 s) k no_row (omega arith) ∙ get_or-drop 1 s k no_row ∙ ap (λ n. get_or s n no_row) e
 
--- no depth passes the limit
-pub shallow_from : (s : List ShapeRow) (ds es : List ℕ) (len : ℕ) → es ≡ ds → length es ≡ len → len ≡ length s → ((i : ℕ) → i < length s → get_or ds i 0 ≡ depth_of s i) → ((i : ℕ) → i < length es → get_or es i 0 ≤ 512) → (i : ℕ) → i < length s → depth_of s i ≤ 512
-shallow_from s ds es len e el l each few i h =
-    let a : get_or es i 0 ≤ 512 = few i (omega arith) in
-    let b : get_or es i 0 ≡ depth_of s i = ap (λ xs. get_or xs i 0) e ∙ each i h in
+-- one more than the depth that is read at place p, where the parent of row k + 1 stands, is the depth of row k + 1
+pub above_is : (s : List ShapeRow) → IsRooted s → (nodes : List Node) (len k p : ℕ) (x : Node) → k + 1 < length s → len ≡ length nodes → len ≡ k + 1 → ((i : ℕ) → i < len → (node_at nodes i).depth ≡ depth_of s i) → p ≡ (get_or (take (length s - 1) (drop 1 s)) k no_row).parent → x ≡ get_or nodes p x → x.depth + 1 ≡ depth_of s (k + 1)
+above_is s t nodes len k p x h l e each ep read =
+    let is : p ≡ parent_at s (k + 1) = ep ∙ ap (λ r. r.parent) (row_read s k h) in
+    let above : parent_at s (k + 1) < k + 1 = t.above (k + 1) (omega arith) h in
+    let within : p < len = omega arith in
+    let d : x.depth ≡ depth_of s p = ap (λ y. y.depth) (get_or_read_under nodes p len x no_node read within l) ∙ each p within in
+    ap (λ n. n + 1) (d ∙ ap (depth_of s) is) ∙ sym (depth_step s t (k + 1) (omega arith) h)
+
+-- the depths in the nodes are those of the rows
+abbrev pub Depths : List ShapeRow → List Node → Type 0
+Depths s nodes = (i : ℕ) → i < length nodes → (node_at nodes i).depth ≡ depth_of s i
+
+pub nodes_shallow : (s : List ShapeRow) (nodes : List Node) → length nodes ≡ length s → Depths s nodes → ((i : ℕ) → i < length s → depth_of s i ≤ 512) → All (λ node. node.depth ≤ 512) nodes
+nodes_shallow s nodes l each few k d h =
+    let few_k : depth_of s k ≤ 512 = few k (omega arith) in
+    let is : (get_or nodes k d).depth ≡ depth_of s k = ap (λ x. x.depth) (get_or_default nodes k d no_node h) ∙ each k h in
     omega arith
 
--- a depth passes the limit
-pub deep_from : (s : List ShapeRow) (ds es : List ℕ) (len : ℕ) → es ≡ ds → length es ≡ len → len ≡ length s → ((i : ℕ) → i < length s → get_or ds i 0 ≡ depth_of s i) → (i : ℕ) × (i < length es) × (512 < get_or es i 0) → IsShape s → ⊥
-deep_from s ds es len e el l each deep shape =
-    let i : ℕ = deep.0 in
-    let h : i < length s = omega (arith, deep.1) in
-    let a : depth_of s i ≤ 512 = shape.shallow i h in
-    let b : get_or es i 0 ≡ depth_of s i = ap (λ xs. get_or xs i 0) e ∙ each i h in
-    omega (arith, deep.2)
+pub rows_shallow : (s : List ShapeRow) (nodes : List Node) → length nodes ≡ length s → Depths s nodes → All (λ node. node.depth ≤ 512) nodes → (i : ℕ) → i < length s → depth_of s i ≤ 512
+rows_shallow s nodes l each few i h =
+    let within : i < length nodes = omega arith in
+    let few_i : (node_at nodes i).depth ≤ 512 = few i no_node within in
+    omega (arith, each i within)

@@ -52,9 +52,6 @@ led_each s r (e ∷ es) t =
     (λ q. ((w.0, (w.1, eqb-true (parent_at s e.row) r q)), led_each s r es (rest_of s e es t)))
     (λ _. tt)
 
-pub led_child : (s : List ShapeRow) (order : List Entry) (r at : ℕ) → IsShape s → Arranged s order → (c : ℕ) (cs : List ℕ) → led_by s r (drop at order) ≡ c ∷ cs → IsChild s r c
-led_child s order r at shape a c cs e = (subst (AllByRecursion (IsChild s r)) e (led_each s r (drop at order) (stretch_drop s order shape a at))).0
-
 led_later : (s : List ShapeRow) (r f : ℕ) (es : List Entry) → ((k : ℕ) → k < length es → parent_at s (entry_at es k).row ≡ r → f < function_at s (entry_at es k).row) → AllByRecursion (λ d. f < function_at s d) (led_by s r es)
 led_later s r f [] h = tt
 led_later s r f (e ∷ es) h =

@@ -1,7 +1,6 @@
 pub mod Apart
 pub mod Depths
 pub mod Drawn
-pub mod Joins
 pub mod Lists
 pub mod Sizes
 pub mod Sorting

@@ -1,11 +1,8 @@
--- Lists that grow by one, and a place of a list that is read.
-use Rattle.std.proofs.Common.{◌≡◌, ℕ, ◌+◌, ◌<◌, ◌⊎◌, List, get_or, sym, ◌∙◌, subst, inl, inr, arith}
-use Rattle.std.proofs.lemmas.Bool.{cases_eq}
+-- A list that grows by one.
+use Rattle.std.proofs.Common.{◌≡◌, ℕ, ◌+◌, ◌<◌, List, get_or, sym, subst, below_more}
 
--- what is pushed at place i is `f i`
-pub pushed_more : {X : Type 0} (f : ℕ → X) (d : X) (xs ys : List X) (len i : ℕ) → len ≡ i → ((k : ℕ) → k < i → get_or xs k d ≡ f k) → ((k : ℕ) (e : X) → k < len → get_or ys k e ≡ get_or xs k e) → get_or ys len d ≡ f i → (n : ℕ) → n ≡ i + 1 → (k : ℕ) → k < n → get_or ys k d ≡ f k
-pushed_more {X} f d xs ys len i e inv kept last n en k h = by_place (cases_eq k i)
-  where
-    by_place : (k ≡ i) ⊎ (k ≡ i → ⊥) → get_or ys k d ≡ f k
-    by_place (inl q) = subst (λ m. get_or ys m d ≡ f m) (sym q) (subst (λ m. get_or ys m d ≡ f i) e last)
-    by_place (inr q) = let l : k < i = omega arith in let m : k < len = omega arith in kept k d m ∙ inv k l
+-- what holds of each element holds of each after a push, if it holds of what is pushed
+pub pushed_each : {X : Type 0} (P : ℕ → X → Type 0) (d x : X) (xs ys : List X) (len n : ℕ) → n ≡ len + 1 → ((k : ℕ) → k < len → P k (get_or xs k d)) → ((k : ℕ) (e : X) → k < len → get_or ys k e ≡ get_or xs k e) → get_or ys len d ≡ x → P len x → (k : ℕ) → k < n → P k (get_or ys k d)
+pushed_each {X} P d x xs ys len n e each kept last now =
+    subst (λ m. (k : ℕ) → k < m → P k (get_or ys k d)) (sym e)
+    (below_more (λ k. P k (get_or ys k d)) len (λ k h. subst (P k) (sym (kept k d h)) (each k h)) (subst (P len) (sym last) now))

@@ -11,7 +11,6 @@ use Rattle.std.proofs.lemmas.List.Sorted.{length_permutation, IsPermutation-keep
 use Rattle.std.proofs.lemmas.Bool.{true≢false, lt-ltb, le-ltb, eq-eqb, cond-true, cond-false, cases_order, cases_lt, cases_eq}
 use Rattle.rows.specs.declared.shape.ShapeRow.{ShapeRow}
 use Rattle.report.specs.declared.order.Entry.{Entry}
-use Rattle.report.specs.contracts.order.EntryOrd.TheImpl as by-entry
 use Rattle.report.specs.Order.{no_entry, entry_at, entry_of, Listed, Upto, Arranged}
 
 -- ---- the order of the entries
@@ -21,9 +20,6 @@ key x = (x.parent, (x.function, x.row))
 
 abbrev pub compared : Entry → Entry → Ordering
 compared x y = ordering_then (nat_cmp (key x).0 (key y).0) (ordering_then (nat_cmp (key x).1.0 (key y).1.0) (nat_cmp (key x).1.1 (key y).1.1))
-
-pub compared_is : (x y : Entry) → (by-entry.ghosts).cmp x y ≡ compared x y
-compared_is x y = refl
 
 rank_less : (a b : ℕ) → a < b → nat_cmp a b ≡ Less
 rank_less a b h = cond-true (ltb a b) Less (cond (eqb a b) Equal Greater) (lt-ltb a b h)

@@ -1,11 +1,12 @@
 -- What `outline` answers, and the working tree that it makes.
-use Rattle.std.specs.Prelude.{◌≡◌, ℕ, ◌<◌, ◌≤◌, List, length, drop, Ok, Err, vec_items, vec_len, Result, slice_index}
+use Rattle.std.specs.Prelude.{◌≡◌, ℕ, ◌<◌, ◌≤◌, List, length, drop, Ok, Err, vec_items, vec_len, Result}
 use Rattle.rows.specs.declared.shape.ShapeRow.{ShapeRow}
 use Rattle.report.specs.declared.fault.OutlineError.{OutlineError}
 use Rattle.report.specs.declared.fault.OutlineError.TheVariants.{NotAShape, ShortColumn, NoMemory}
 use Rattle.report.specs.declared.tree.Tree.{Tree}
 use Rattle.rows.specs.ShapeColumn.{IsShape, depth_of}
 use Rattle.report.specs.Order.{Arranged, Begins}
+use Rattle.report.specs.Node.{node_at}
 use Rattle.report.specs.Outline.{led_by}
 
 -- what a refusal to make the working tree says of the shape
@@ -25,14 +26,13 @@ abbrev pub Answers : {X : Type 0} → List ShapeRow → ℕ → Result X Outline
 Answers s places (Ok x) = IsShape s × (length s ≤ places)
 Answers s places (Err e) = Refuses s places e
 
--- the tree is the shape's: its rows in order, where each row's children begin, and each row's depth
+-- the tree is the shape's: its rows in order, and in each row's node its depth and where its children begin
 pub record TreeOf (s : List ShapeRow) (t : Tree) : Type 0 where
   pub order : Arranged s (vec_items t.order)
-  pub starts_long : vec_len t.starts ≡ length s
-  pub starts : (i : ℕ) → i < length s → Begins (vec_items t.order) i (slice_index (vec_items t.starts) i)
-  pub depths_long : vec_len t.depths ≡ length s
-  pub depths : (i : ℕ) → i < length s → slice_index (vec_items t.depths) i ≡ depth_of s i
+  pub long : vec_len t.nodes ≡ length s
+  pub depths : (i : ℕ) → i < length s → (node_at (vec_items t.nodes) i).depth ≡ depth_of s i
+  pub starts : (i : ℕ) → i < length s → Begins (vec_items t.order) i (node_at (vec_items t.nodes) i).start
 
 -- the rows of the order from the place on where the children of a row begin, as long as they are its children
 abbrev pub led_from : List ShapeRow → Tree → ℕ → List ℕ
-led_from s t r = led_by s r (drop (slice_index (vec_items t.starts) r) (vec_items t.order))
+led_from s t r = led_by s r (drop (node_at (vec_items t.nodes) r).start (vec_items t.order))

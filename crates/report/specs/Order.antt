@@ -44,3 +44,4 @@ Twins order = (k : ℕ) × (k + 1 < length order) × Alike (entry_at order k) (e
 pub record Begins (order : List Entry) (parent at : ℕ) : Type 0 where
   pub none_before : (k : ℕ) → k < at → (entry_at order k).parent ≢ parent
   pub here : at < length order → (entry_at order at).parent ≡ parent
+  pub within : at ≤ length order

@@ -1,7 +1,9 @@
 // The order of the rows by parent and then by function, in which a row's children stand side by side.
-ghost use Rattle.std.specs.Prelude.{◌≡◌, ℕ, ◌<◌, ◌≤◌, length, IfOk, vec_len, MatchBool, slice_index};
+ghost use Rattle.std.specs.Prelude.{◌≡◌, ◌<◌, ◌≤◌, ◌↔◌, length, IfOk, IsTrue, EachIndex};
 ghost use Rattle.report.specs.Order.{entry_at, Listed, Arranged, Twins, Begins};
+ghost use Rattle.report.specs.Node.{node_at};
 
+use crate::tree::Node;
 use rows::shape::ShapeRow;
 use std::alloc::{AllocError, Global};
 
@@ -19,16 +21,16 @@ fn listed(heap: Global, shape: &[ShapeRow]) -> Result<Vec<Entry>, AllocError>
     requires most { length shape.now ≤ 65535 }
     ensures { IfOk result (λ v. Listed shape.now v.items) }
 {
-    let mut list = Vec::new(heap);
-    for i in 1..shape.len() {
-        let ShapeRow { function, parent } = shape[i];
-        list.push(Entry {
-            parent,
-            function,
+    shape
+        .iter()
+        .enumerate()
+        .skip(1)
+        .map(|(i, row)| Entry {
+            parent: row.parent,
+            function: row.function,
             row: i as u16,
-        })?;
-    }
-    Ok(list)
+        })
+        .collect(heap)
 }
 
 // The rows from 1 on, by parent and then by function.
@@ -44,34 +46,22 @@ pub(crate) fn ordered(heap: Global, shape: &[ShapeRow]) -> Result<Vec<Entry>, Al
 
 // Whether two rows share parent and function. In the order they would be neighbours.
 pub(crate) fn has_twins(order: &[Entry]) -> bool
-    ensures { MatchBool result (Twins order.now) (Twins order.now → ⊥) }
+    ensures { IsTrue result ↔ Twins order.now }
 {
-    for k in 1..order.len() {
-        let Entry {
-            parent,
-            function,
-            row: _,
-        } = order[k - 1];
-        if order[k].parent == parent && order[k].function == function {
-            return true;
-        }
-    }
-    false
+    order.windows(2).any(|pair| {
+        pair[0].parent == pair[1].parent && pair[0].function == pair[1].function
+    })
 }
 
-// For each row the place in the order where its children begin, and the order's length where it has none.
-pub(crate) fn starts_of(
-    heap: Global,
-    order: &[Entry],
-    rows: usize,
-) -> Result<Vec<usize>, AllocError>
-    requires { (k : ℕ) → k < length order.now → (entry_at order.now k).parent < rows }
-    ensures long { IfOk result (λ v. vec_len v ≡ rows) }
-    ensures each { IfOk result (λ v. (i : ℕ) → i < rows → Begins order.now i (slice_index v.items i)) }
+// Writes into each row's node where its children begin: at the first entry with that parent.
+pub(crate) fn find_starts(order: &[Entry], nodes: &mut [Node])
+    requires parents { EachIndex order.now (λ k. (entry_at order.now k).parent < length nodes.old) }
+    requires past { EachIndex nodes.old (λ i. (node_at nodes.old i).start ≡ length order.now) }
+    ensures starts { EachIndex nodes.new (λ i. Begins order.now i (node_at nodes.new i).start) }
+    ensures depths { EachIndex nodes.new (λ i. (node_at nodes.new i).depth ≡ (node_at nodes.old i).depth) }
 {
-    let mut starts = vec![in heap; order.len(); rows]?;
-    for k in (0..order.len()).rev() {
-        starts[order[k].parent as usize] = k;
+    for (k, entry) in order.iter().enumerate() {
+        let parent = &mut nodes[usize::from(entry.parent)];
+        parent.start = parent.start.min(k);
     }
-    Ok(starts)
 }

@@ -1,7 +1,7 @@
 // The outline of a shape: each row before its children, and these by rising function.
-ghost use Rattle.std.specs.Prelude.{◌≡◌, ◌+◌, ◌<◌, ◌≤◌, [], ◌∷◌, length, drop, vec_len, MatchOption, OnErr, OnOk, OnSome};
+ghost use Rattle.std.specs.Prelude.{◌≡◌, ◌+◌, ◌<◌, ◌≤◌, length, OnErr, OnOk};
 ghost use Rattle.report.specs.Answer.{Answers, TreeOf, led_from};
-ghost use Rattle.report.specs.Outline.{Drawn, RowDrawn, RowsDrawn, led_by};
+ghost use Rattle.report.specs.Outline.{Drawn, RowDrawn, RowsDrawn};
 ghost use Rattle.rows.specs.ShapeColumn.{IsShape};
 ghost use Rattle.report.specs.Size.{size_of};
 
@@ -32,7 +32,7 @@ fn row(shape: &[ShapeRow], tree: &Tree, this: u16, at: usize, column: &mut [Line
 {
     column[at] = Line {
         row: this,
-        depth: tree.depths[this as usize],
+        depth: tree.nodes[usize::from(this)].depth,
     };
     children(shape, tree, this, at + 1, column)
 }
@@ -49,32 +49,19 @@ fn children(shape: &[ShapeRow], tree: &Tree, parent: u16, at: usize, column: &mu
     ensures end { result + 1 ≡ at + size_of shape.now parent }
     ensures drawn { RowsDrawn shape.now (led_from shape.now tree.now parent) at result column.old column.new }
 {
-    let mut next = tree.starts[parent as usize];
     let mut end = at;
-    while let Some(child) = child_at(shape, tree, parent, next) {
+    let start = tree.nodes[usize::from(parent)].start;
+    for entry in &tree.order[start..] {
+        let child = entry.row;
+        if shape[usize::from(child)].parent != parent {
+            break;
+        }
         end = row(shape, tree, child, end, column);
-        next += 1;
     }
     end
 }
 
-// The child of `parent` that stands at the place `next` of the order, where one does.
-fn child_at(shape: &[ShapeRow], tree: &Tree, parent: u16, next: usize) -> Option<u16>
-    requires { TreeOf shape.now tree.now }
-    ensures leads { MatchOption result (led_by shape.now parent (drop next tree.now.order.items) ≡ []) (λ child. led_by shape.now parent (drop next tree.now.order.items) ≡ child ∷ led_by shape.now parent (drop (next + 1) tree.now.order.items)) }
-    ensures place { OnSome result (next < vec_len tree.now.order) }
-{
-    if next >= tree.order.len() {
-        return None;
-    }
-    let child = tree.order[next].row;
-    if shape[child as usize].parent != parent {
-        return None;
-    }
-    Some(child)
-}
-
-// Fills the column's first places with the rows of the shape in the order of their outline. A refusal leaves the
+// Fills the column's first nodes with the rows of the shape in the order of their outline. A refusal leaves the
 // column as it was. Want of memory may be found before a fault in the depths or in rows that share parent and function.
 pub fn outline(heap: Global, shape: &[ShapeRow], column: &mut [Line]) -> Result<(), OutlineError>
     ensures answers { Answers shape.now (length column.old) result }

@@ -1,10 +1,10 @@
 // The printed page: one line for each row of the outline, and a footer; or one line that says where reading stopped.
 ghost use Rattle.std.specs.Prelude.{◌≡◌, IfOk, Some, string_bytes};
+ghost use Rattle.report.specs.Name.{name_of};
 ghost use Rattle.report.specs.Text.{name_text, line_text, footer_text, stop_text, page_bytes, ended};
 
 use std::alloc::{AllocError, Global};
 use std::fmt;
-use std::fmt::Write;
 
 // What stands in the name column of a row.
 #[derive(Clone, Copy, PartialEq, Eq, Debug)]
@@ -13,6 +13,18 @@ pub enum Name {
     Root,
     // a function that is known by its number alone
     Function(u16),
+}
+
+// The root has no function, and shows 0 for one.
+impl From<u16> for Name {
+    ghost from_gives = { λ function name. name ≡ name_of function };
+
+    fn from(function: u16) -> Name {
+        match function {
+            0 => Name::Root,
+            _ => Name::Function(function),
+        }
+    }
 }
 
 impl fmt::Display for Name {
@@ -41,13 +53,11 @@ impl fmt::Display for PageLine {
     ghost output = { λ l. Some (line_text l) };
 
     fn fmt<W: fmt::Write>(&self, f: &mut fmt::Formatter<W>) -> fmt::Result {
-        let depth = self.depth;
-        let name = self.name;
-        let own_calls = self.own_calls;
-        let own_work = self.own_work;
-        let calls = self.calls;
-        let work = self.work;
-        write!(f, "{depth} {name} {own_calls} {own_work} {calls} {work}")
+        write!(
+            f,
+            "{} {} {} {} {} {}",
+            self.depth, self.name, self.own_calls, self.own_work, self.calls, self.work
+        )
     }
 }
 
@@ -62,9 +72,7 @@ impl fmt::Display for Footer {
     ghost output = { λ x. Some (footer_text x) };
 
     fn fmt<W: fmt::Write>(&self, f: &mut fmt::Formatter<W>) -> fmt::Result {
-        let strays = self.strays;
-        let open = self.open;
-        write!(f, "strays {strays} open {open}")
+        write!(f, "strays {} open {}", self.strays, self.open)
     }
 }
 
@@ -80,25 +88,8 @@ impl fmt::Display for StopLine {
     ghost output = { λ x. Some (stop_text x) };
 
     fn fmt<W: fmt::Write>(&self, f: &mut fmt::Formatter<W>) -> fmt::Result {
-        let cause = self.cause;
-        let place = self.place;
-        let passed = self.passed;
-        write!(f, "stopped {cause} {place} {passed}")
+        write!(f, "stopped {} {} {}", self.cause, self.place, self.passed)
     }
-}
-
-// A row's line and its end.
-fn line_text(heap: Global, line: &PageLine) -> Result<String, AllocError>
-    ensures { IfOk result (λ s. string_bytes s ≡ ended (line_text line.now)) }
-{
-    format!(in heap; "{line}\n")
-}
-
-// The footer's line and its end.
-fn footer_text(heap: Global, footer: &Footer) -> Result<String, AllocError>
-    ensures { IfOk result (λ s. string_bytes s ≡ ended (footer_text footer.now)) }
-{
-    format!(in heap; "{footer}\n")
 }
 
 // The whole page: the lines in their order, then the footer.
@@ -107,11 +98,9 @@ pub fn page_text(heap: Global, lines: &[PageLine], footer: &Footer) -> Result<St
 {
     let mut page = String::new(heap);
     for line in lines {
-        let text = line_text(heap, line)?;
-        page.push_str(text.as_str())?;
+        writeln!(page, "{line}")?;
     }
-    let last = footer_text(heap, footer)?;
-    page.push_str(last.as_str())?;
+    writeln!(page, "{footer}")?;
     Ok(page)
 }
 

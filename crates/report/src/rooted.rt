@@ -1,7 +1,9 @@
 // What each row shows by itself: that the rows hang together below one root.
-ghost use Rattle.std.specs.Prelude.{◌≡◌, ℕ, ◌<◌, ◌≤◌, length, IfOk, vec_len, Decides, MatchBool, slice_index};
+ghost use Rattle.std.specs.Prelude.{◌≡◌, ◌+◌, ◌≤◌, ◌↔◌, length, IfOk, IsTrue, All, EachIndex, vec_len};
+ghost use Rattle.report.specs.Node.{node_at};
 ghost use Rattle.rows.specs.ShapeColumn.{IsRooted, depth_of};
 
+use crate::tree::Node;
 use rows::shape::ShapeRow;
 use std::alloc::{AllocError, Global};
 
@@ -11,47 +13,47 @@ const MOST_ROWS: usize = 65_535;
 // How many rows may stand above a row.
 const MOST_DEPTH: u16 = 512;
 
+// The row above all calls.
+const ROOT: ShapeRow = ShapeRow {
+    function: 0,
+    parent: 0,
+};
+
 // Whether the rows are those of a tree, but for their depths and for rows that share parent and function.
 pub(crate) fn is_rooted(shape: &[ShapeRow]) -> bool
-    ensures { Decides result (IsRooted shape.now) }
+    ensures { IsTrue result ↔ IsRooted shape.now }
 {
-    if shape.is_empty() || shape.len() > MOST_ROWS {
+    if shape.len() > MOST_ROWS || shape.first() != Some(&ROOT) {
         return false;
     }
-    if shape[0].function != 0 || shape[0].parent != 0 {
-        return false;
-    }
-    for i in 1..shape.len() {
-        if shape[i].function == 0 || shape[i].parent as usize >= i {
-            return false;
-        }
-    }
-    true
+    shape.iter().enumerate().skip(1).all(|(i, row)| {
+        row.function != 0 && usize::from(row.parent) < i
+    })
 }
 
-// The depth of each row. A parent stands above its rows, so its depth is known when theirs are asked for.
-pub(crate) fn depths_of(heap: Global, shape: &[ShapeRow]) -> Result<Vec<u16>, AllocError>
+// A node for each row, with its depth. Where its children begin is not known yet, and is set to the order's end. A parent
+// stands above its rows, so its depth is known when theirs are asked for.
+pub(crate) fn nodes_of(heap: Global, shape: &[ShapeRow]) -> Result<Vec<Node>, AllocError>
     requires { IsRooted shape.now }
     ensures long { IfOk result (λ v. vec_len v ≡ length shape.now) }
-    ensures each { IfOk result (λ v. (i : ℕ) → i < length shape.now → slice_index v.items i ≡ depth_of shape.now i) }
+    ensures depths { IfOk result (λ v. EachIndex v.items (λ i. (node_at v.items i).depth ≡ depth_of shape.now i)) }
+    ensures starts { IfOk result (λ v. EachIndex v.items (λ i. (node_at v.items i).start + 1 ≡ length shape.now)) }
 {
-    let mut depths: Vec<u16> = Vec::new(heap);
-    depths.push(0)?;
-    for i in 1..shape.len() {
-        let above = depths[shape[i].parent as usize];
-        depths.push(above + 1)?;
+    let start = shape.len() - 1;
+    let mut nodes = vec![in heap; Node { depth: 0, start }]?;
+    for row in &shape[1..] {
+        let above = nodes[usize::from(row.parent)].depth;
+        nodes.push(Node {
+            depth: above + 1,
+            start,
+        })?;
     }
-    Ok(depths)
+    Ok(nodes)
 }
 
-// Whether a depth passes the limit.
-pub(crate) fn too_deep(depths: &[u16]) -> bool
-    ensures { MatchBool result ((i : ℕ) × (i < length depths.now) × (512 < slice_index depths.now i)) ((i : ℕ) → i < length depths.now → slice_index depths.now i ≤ 512) }
+// Whether no depth passes the limit.
+pub(crate) fn is_shallow(nodes: &[Node]) -> bool
+    ensures { IsTrue result ↔ All (λ node. node.depth ≤ 512) nodes.now }
 {
-    for depth in depths {
-        if *depth > MOST_DEPTH {
-            return true;
-        }
-    }
-    false
+    nodes.iter().all(|node| node.depth <= MOST_DEPTH)
 }

@@ -4,19 +4,26 @@ ghost use Rattle.rows.specs.ShapeColumn.{IsShape};
 ghost use Rattle.report.specs.Answer.{TreeOf, Unmade};
 
 use crate::fault::OutlineError;
-use crate::order::{Entry, has_twins, ordered, starts_of};
-use crate::rooted::{depths_of, is_rooted, too_deep};
+use crate::order::{Entry, find_starts, has_twins, ordered};
+use crate::rooted::{is_rooted, is_shallow, nodes_of};
 use rows::shape::ShapeRow;
 use std::alloc::Global;
+
+// What the outline reads of one row.
+#[derive(Clone, Copy, PartialEq, Eq, Debug)]
+pub(crate) struct Node {
+    // how many rows stand above it, up to row 0
+    pub depth: u16,
+    // the place in the order where its children begin, and the order's length where it has none
+    pub start: usize,
+}
 
 #[derive(Drop)]
 pub(crate) struct Tree {
     // the rows from 1 on, by parent and then by function
     pub order: Vec<Entry>,
-    // for each row the place in the order where its children begin
-    pub starts: Vec<usize>,
-    // each row's depth
-    pub depths: Vec<u16>,
+    // each row's node, by the row's number
+    pub nodes: Vec<Node>,
 }
 
 // The tree of a shape, or a refusal.
@@ -26,18 +33,14 @@ pub(crate) fn tree_of(heap: Global, shape: &[ShapeRow]) -> Result<Tree, OutlineE
     if !is_rooted(shape) {
         return Err(OutlineError::NotAShape);
     }
-    let depths = depths_of(heap, shape)?;
-    if too_deep(&depths) {
+    let mut nodes = nodes_of(heap, shape)?;
+    if !is_shallow(&nodes) {
         return Err(OutlineError::NotAShape);
     }
     let order = ordered(heap, shape)?;
     if has_twins(&order) {
         return Err(OutlineError::NotAShape);
     }
-    let starts = starts_of(heap, &order, shape.len())?;
-    Ok(Tree {
-        order,
-        starts,
-        depths,
-    })
+    find_starts(&order, &mut nodes);
+    Ok(Tree { order, nodes })
 }

@@ -17,6 +17,18 @@ fn names(rt: HostRuntime) -> Result<(), Fail> {
 }
 
 #[test]
+fn names_of_functions(rt: HostRuntime) {
+    let cases = [
+        (0, Name::Root),
+        (1, Name::Function(1)),
+        (65_535, Name::Function(65_535)),
+    ];
+    for (function, name) in cases {
+        assert_eq!(rt; Name::from(function), name);
+    }
+}
+
+#[test]
 fn stops(rt: HostRuntime) -> Result<(), Fail> {
     let cases = [
         (

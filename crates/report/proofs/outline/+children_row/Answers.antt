@@ -1,55 +1,58 @@
-use Rattle.std.proofs.Common.{◌≡◌, ◌+◌, get_or, drop, vec_items, sym, ap, subst, arith}
+use Rattle.std.proofs.Common.{◌-◌, length, take, drop, vec_items, sym, ap, ◌∙◌, subst, arith}
+use Rattle.report.specs.Order.{entry_at}
 use Rattle.report.specs.Outline.{RowsDrawn, led_by}
-use Rattle.report.specs.Size.{size_of, sizes_of}
-use Rattle.report.proofs.Drawn.{row_drawn, rows_more, rows_none}
-use Rattle.report.proofs.Walk.{start_read, depth_read, row_sizes, lead_below}
+use Rattle.report.specs.Node.{node_at}
+use Rattle.report.specs.Size.{sizes_of}
+use Rattle.rows.specs.ShapeColumn.{parent_at}
+use Rattle.report.proofs.Drawn.{row_drawn, rows_more, rows_none, led_step, led_end, led_none}
+use Rattle.report.proofs.Walk.{node_read, rest_read, row_sizes}
 use Rattle.report.proofs.outline.+children_row.Goals as goal
 
-pub children-loop-child-init : goal.children-loop-child-init
-children-loop-child-init t c =
+pub children-loop-entry-init : goal.children-loop-entry-init
+children-loop-entry-init t c =
     let s = c.args.shape.now in
-    let order = vec_items c.args.tree.now.order in
     let p = c.args.parent in
-    let e = start_read s c.args.tree.now c.requires.tree p c.index-next.result.now c.requires.parent c.index-next.ensures in
-    let sizes = row_sizes s c.args.tree.now c.requires.shape c.requires.tree p c.requires.parent in (
-      subst (λ n. (c.args.at + sizes_of s (led_by s p (drop n order))) + 1 ≡ c.args.at + size_of s p) (sym e) (omega (arith, sizes)),
-      λ end new d. subst (λ n. RowsDrawn s (led_by s p (drop n order)) c.args.at end c.args.column.now new) e d,
-    )
-
-pub children-row-end-requires : goal.children-row-end-requires
-children-row-end-requires t c =
-    let s = c.args.shape.now in
-    let leads = c.in-Some.ensures.leads in
-    let below = lead_below s c.args.tree.now c.requires.shape c.requires.tree c.args.parent c.loop-child.next c.in-Some.child _ leads in (
-      omega (arith, c.decreases, below.0, below.1),
-      (c.requires.shape, (c.requires.tree, (below.1, (omega (arith, c.requires.room, c.loop-child.invariant.0, ap (sizes_of s) leads), omega (arith, c.requires.column, c.loop-child.auto.column))))),
-    )
-
-pub children-loop-child-preserved : goal.children-loop-child-preserved
-children-loop-child-preserved t c =
-    let s = c.args.shape.now in
-    let leads = c.in-Some.ensures.leads in (
-      omega (arith, c.row-end.ensures.end, c.loop-child.invariant.0, ap (sizes_of s) leads),
-      λ e new d. c.loop-child.invariant.1 e new (rows_more s _ _ c.in-Some.child c.loop-child.end c.row-end.result e c.loop-child.column c.row-end.new.column new leads c.row-end.ensures.drawn d),
-    )
-
-pub children-returns : goal.children-returns
-children-returns t c =
-    let s = c.args.shape.now in
-    let none = c.in_default.ensures.leads in
+    let rest = rest_read s c.args.tree.now c.requires.tree p c.from.result c.index.result.now c.deref.result.now c.requires.parent c.from.ensures c.index.ensures c.deref.ensures.value in
+    let sizes = row_sizes s c.args.tree.now c.requires.shape c.requires.tree p c.requires.parent in
     record {
-      end = omega (arith, c.loop-child.invariant.0, ap (sizes_of s) none);
-      drawn = c.loop-child.invariant.1 c.loop-child.end c.loop-child.column (rows_none s _ c.loop-child.end c.loop-child.column none);
+      long = omega (arith, sizes, ap (λ es. sizes_of s (led_by s p es)) rest);
+      completes = λ end new d. subst (λ es. RowsDrawn s (led_by s p es) c.args.at end c.args.column.now new) rest d;
     }
+
+pub children-loop-entry-preserved : goal.children-loop-entry-preserved
+children-loop-entry-preserved t c =
+    let s = c.args.shape.now in
+    let es = drop c.index.result.now.start c.deref.result.now in
+    let entries = take (length c.deref.result.now - c.index.result.now.start) es in
+    let k = c.loop-entry.entry-index in
+    let leads = led_step s entries c.args.parent k c.loop-entry-test.true (ap (parent_at s) (sym c.from-in-loop-entry.ensures) ∙ c.if-shape-from.false) in
+    record {
+      long = omega (arith, c.row-end.ensures.end, c.loop-entry.invariant.long, ap (sizes_of s) leads);
+      completes = λ e new d. c.loop-entry.invariant.completes e new (rows_more s _ _ (entry_at entries k).row c.loop-entry.end c.row-end.result e c.loop-entry.column c.row-end.new.column new leads c.row-end.ensures.drawn d);
+    }
+
+pub children-returns-after-loop-entry-clause-drawn : goal.children-returns-after-loop-entry-clause-drawn
+children-returns-after-loop-entry-clause-drawn t c =
+    let s = c.args.shape.now in
+    let entries = take (length c.deref.result.now - c.index.result.now.start) (drop c.index.result.now.start c.deref.result.now) in
+    c.loop-entry.invariant.completes c.loop-entry.end c.loop-entry.column
+    (rows_none s _ c.loop-entry.end c.loop-entry.column (led_none s entries c.args.parent c.loop-entry.entry-index c.loop-entry-test.false))
+
+pub children-returns-then-shape-from-clause-drawn : goal.children-returns-then-shape-from-clause-drawn
+children-returns-then-shape-from-clause-drawn t c =
+    let s = c.args.shape.now in
+    let entries = take (length c.deref.result.now - c.index.result.now.start) (drop c.index.result.now.start c.deref.result.now) in
+    c.loop-entry.invariant.completes c.loop-entry.end c.loop-entry.column
+    (rows_none s _ c.loop-entry.end c.loop-entry.column (led_end s entries c.args.parent c.loop-entry.entry-index c.loop-entry-test.true (λ e. c.if-shape-from.true (ap (parent_at s) c.from-in-loop-entry.ensures ∙ e))))
 
 pub row-bounds-column-at : goal.row-bounds-column-at
 row-bounds-column-at t c = omega (arith, c.requires.room, c.requires.column, row_sizes c.args.shape.now c.args.tree.now c.requires.shape c.requires.tree c.args.this c.requires.this)
 
-pub row-returns : goal.row-returns
-row-returns t c =
+pub row-returns-clause-drawn : goal.row-returns-clause-drawn
+row-returns-clause-drawn t c =
     let s = c.args.shape.now in
-    let depth = depth_read s c.args.tree.now c.requires.tree c.args.this c.index.result.now c.requires.this c.index.ensures in
-    record {
-      end = omega (arith, c.children.ensures.end);
-      drawn = row_drawn s (vec_items c.args.tree.now.order) c.requires.shape c.requires.tree.order c.args.this c.args.at c.children.result (get_or (vec_items c.args.tree.now.starts) c.args.this 0) c.index.result.now c.args.column.now c.children.new.column (c.requires.tree.starts c.args.this c.requires.this) depth c.children.ensures.drawn;
-    }
+    let this = c.args.this in
+    let nodes = vec_items c.args.tree.now.nodes in
+    let node = node_read s c.args.tree.now c.requires.tree this c.from.result c.index.result.now c.requires.this c.from.ensures c.index.ensures in
+    let depth = ap (λ x. x.depth) node ∙ c.requires.tree.depths this c.requires.this in
+    row_drawn s (vec_items c.args.tree.now.order) c.requires.shape c.requires.tree.order this c.args.at c.children.result (node_at nodes this).start c.index.result.now.depth c.args.column.now c.children.new.column (c.requires.tree.starts this c.requires.this) depth c.children.ensures.drawn

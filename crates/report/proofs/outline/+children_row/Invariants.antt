@@ -1,4 +1,4 @@
-use Rattle.std.proofs.Common.{◌≡◌, ℕ, ◌+◌, ◌-◌, ◌*◌, List, length, drop, vec_items, vec_len}
+use Rattle.std.proofs.Common.{◌≡◌, ℕ, ◌+◌, ◌-◌, ◌*◌, List, length, drop}
 use Rattle.report.specs.declared.outline.Line.{Line}
 use Rattle.report.specs.Answer.{led_from}
 use Rattle.report.specs.Outline.{RowsDrawn, led_by}
@@ -13,10 +13,8 @@ abbrev pub decreases-row : goal.decreases-row
 decreases-row l = (length l.shape.now - l.this) * 2 + 1
 
 -- What is left to write is as long as what was to be written, and completes it.
-abbrev pub invariant-children-loop-child : goal.invariant-children-loop-child
-invariant-children-loop-child l =
-    ((l.end + sizes_of l.shape (led_by l.shape l.parent (drop l.next (vec_items l.tree.order)))) + 1 ≡ l.at + size_of l.shape l.parent)
-    × ((e : ℕ) (new : List Line) → RowsDrawn l.shape (led_by l.shape l.parent (drop l.next (vec_items l.tree.order))) l.end e l.column new → RowsDrawn l.shape (led_from l.shape l.tree l.parent) l.at e l.initial.column new)
-
-abbrev pub decreases-children-loop-child : goal.decreases-children-loop-child
-decreases-children-loop-child l = vec_len l.tree.order - l.next
+abbrev pub invariant-children-loop-entry : goal.invariant-children-loop-entry
+invariant-children-loop-entry l = record {
+  long : (l.end + sizes_of l.shape (led_by l.shape l.parent (drop l.entry-index l.entry-items))) + 1 ≡ l.at + size_of l.shape l.parent;
+  completes : (e : ℕ) (new : List Line) → RowsDrawn l.shape (led_by l.shape l.parent (drop l.entry-index l.entry-items)) l.end e l.column new → RowsDrawn l.shape (led_from l.shape l.tree l.parent) l.at e l.initial.column new;
+}
