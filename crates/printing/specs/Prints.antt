@@ -1,5 +1,5 @@
 -- What is printed of a text trace. Assumes nothing.
-use Rattle.std.specs.Prelude.{◌≡◌, ℕ, Bool, cond, List, length, Ok, Err, Result, String, string_bytes, MatchBool, ◌==◌, nat_lt}
+use Rattle.std.specs.Prelude.{◌≡◌, ℕ, Bool, List, length, Ok, Err, Result, String, string_bytes, MatchBool, nat_lt}
 use Rattle.trace.specs.declared.record.Record.{Record}
 use Rattle.trace.specs.Sources.{Ending}
 use Rattle.trace.specs.Faults.{number as cause_number}
@@ -8,14 +8,17 @@ use Rattle.metrics.specs.Measures.{Measure}
 use Rattle.metrics.specs.Sums.{Capped, calls, work}
 use Rattle.metrics.specs.Pairs.{pair}
 use Rattle.rows.specs.Numbers.{number as rejection_number}
+use Rattle.metrics.specs.declared.pair.Pair.{Pair}
+use Rattle.metrics.specs.declared.sum.Sum.{Sum}
+use Rattle.profile.specs.declared.tree.TreeRow.{TreeRow}
 use Rattle.profile.specs.declared.reading.Stop.{Stop}
 use Rattle.profile.specs.declared.reading.Stop.TheVariants.{Limit, End, Faulted, Rejected}
 use Rattle.profile.specs.Given.{Held}
 use Rattle.profile.specs.View.{fresh}
 use Rattle.profile.specs.Reads.{Reads}
-use Rattle.report.specs.declared.page.Name.{Name}
-use Rattle.report.specs.declared.page.Name.TheVariants.{Root, Function}
+use Rattle.report.specs.declared.page.PageLine.{PageLine}
 use Rattle.report.specs.declared.page.StopLine.{StopLine}
+use Rattle.report.specs.Name.{name_of}
 use Rattle.report.specs.Text.{stop_text, ended}
 use Rattle.printing.specs.declared.PrintError.{PrintError}
 use Rattle.printing.specs.declared.PrintError.TheVariants.{Stopped, NoMemory}
@@ -24,9 +27,16 @@ use Rattle.printing.specs.declared.PrintError.TheVariants.{Stopped, NoMemory}
 abbrev pub cost : Measure (Capped × Capped)
 cost = pair calls work
 
--- the root has no function
-abbrev pub named : ℕ → Name
-named f = cond (f == 0) Root (Function f)
+-- The line of a row, with its name, its own calls and work, and its inclusive ones.
+abbrev pub page_line : {A B : Type 0} → ℕ → TreeRow (Pair (Sum A) (Sum B)) → Pair (Sum A) (Sum B) → PageLine
+page_line depth row inclusive = record {
+  depth = depth;
+  name = name_of row.function;
+  own_calls = row.value.first.total;
+  own_work = row.value.second.total;
+  calls = inclusive.first.total;
+  work = inclusive.second.total;
+}
 
 abbrev pub stop_line : ℕ → ℕ → ℕ → StopLine
 stop_line cause place passed = record { cause = cause; place = place; passed = passed }

@@ -7,7 +7,7 @@ ghost use Rattle.std.specs.List.{AllByRecursion};
 ghost use Rattle.rows.specs.ShapeColumn.{IsShape};
 ghost use Rattle.profile.specs.declared.reading.Stop.TheVariants.{Limit};
 ghost use Rattle.printing.specs.declared.PrintError.TheVariants.{NoMemory};
-ghost use Rattle.printing.specs.Prints.{named, stopping, Prints, Tells, GoesOn};
+ghost use Rattle.printing.specs.Prints.{page_line, stopping, Prints, Tells, GoesOn};
 
 use metrics::calls::Calls;
 use metrics::metric::Metric;
@@ -56,17 +56,6 @@ impl From<AllocError> for PrintError {
     }
 }
 
-// What stands in a row's name column: the root has no function.
-fn name_of(function: u16) -> Name
-    ensures { result ≡ named function }
-{
-    if function == 0 {
-        Name::Root
-    } else {
-        Name::Function(function)
-    }
-}
-
 // The tree's shape in a column of its own.
 fn shape_of(heap: Global, tree: &Tree<'_, Cost>) -> Result<Vec<ShapeRow>, AllocError>
     ensures { IfOk result (λ v. IsShape v.items × (vec_len v ≡ tree.now.count)) }
@@ -106,10 +95,12 @@ fn inclusive_of(heap: Global, tree: &Tree<'_, Cost>) -> Result<Vec<Cost>, AllocE
 }
 
 // One row as it is printed.
-fn page_line(depth: u16, row: TreeRow<Cost>, inclusive: Cost) -> PageLine {
+fn page_line(depth: u16, row: TreeRow<Cost>, inclusive: Cost) -> PageLine
+    ensures { result ≡ page_line depth row inclusive }
+{
     PageLine {
         depth,
-        name: name_of(row.function),
+        name: Name::from(row.function),
         own_calls: row.value.first.total,
         own_work: row.value.second.total,
         calls: inclusive.first.total,
@@ -162,7 +153,7 @@ fn read_through(heap: Global, read: ReadIn) -> Result<(), PrintError>
         Stop::Faulted(fault) => Err(stopped(
             heap,
             StopLine {
-                cause: fault.cause.number(),
+                cause: u8::from(fault.cause),
                 place: fault.place,
                 passed: fault.passed,
             },
