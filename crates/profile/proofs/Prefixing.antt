@@ -1,5 +1,5 @@
 -- One record read is a read-in of limit 1, and read-ins in a row are one: what the loop of a read-in needs. Assumes nothing.
-use Rattle.std.proofs.Common.{◌≡◌, ℕ, ◌+◌, ◌<◌, ◌⊎◌, List, [], ◌∷◌, ◌++◌, length, take, drop, Some, Ok, Err, sym, refl, ap, ◌∙◌, subst, inl, inr, ⊎_elim, add-zero, arith, length-drop}
+use Rattle.std.proofs.Common.{◌≡◌, ℕ, ◌+◌, ◌<◌, ◌⊎◌, List, [], ◌∷◌, ◌++◌, length, take, drop, Some, None, Ok, Err, sym, refl, ap, ◌∙◌, subst, inl, inr, ⊎_elim, add-zero, arith, length-drop}
 use Rattle.std.proofs.Math.Seq.{take-add}
 use Rattle.std.proofs.lemmas.List.{drop-drop}
 use Rattle.std.proofs.lemmas.List.Sums.{fold-append}
@@ -7,7 +7,7 @@ use Rattle.trace.specs.declared.record.Record.{Record}
 use Rattle.trace.specs.Sources.{Ending, answered, rest}
 use Rattle.rows.specs.declared.rejection.Rejection.{Rejection}
 use Rattle.profile.specs.declared.reading.Stop.{Stop}
-use Rattle.profile.specs.declared.reading.Stop.TheVariants.{Limit, Rejected}
+use Rattle.profile.specs.declared.reading.Stop.TheVariants.{Limit, End, Rejected}
 use Rattle.metrics.specs.Measures.{Measure}
 use Rattle.profile.specs.Given.{Held, step, Accepts, Given}
 use Rattle.profile.specs.Reads.{steps, stop_at, Stops, limited, ended, refused, Reads}
@@ -56,6 +56,12 @@ module _ {M : Type 0} (m : Measure M) where
     where
       go : (zs : List Record) → Reads m a a (r ∷ zs) zs e e 1 0 (Rejected x)
       go zs = record { enough = omega arith; each = none a; left = refl; ending = refl; stops = refused r x (omega arith) refl given.1 refl }
+
+  -- the source is at its end
+  pub one_ended : (a : Held M) (xs ys : List Record) (e e' : Ending) → Ok None ≡ answered xs e → ys ≡ rest xs → e' ≡ e → Reads m a a xs ys e e' 1 0 End
+  one_ended a [] ys (Ok _) e' h left same = record { enough = omega arith; each = none a; left = refl; ending = same; stops = ended (omega arith) refl refl left }
+  one_ended a [] ys (Err f) e' h left same = absurd (cc)
+  one_ended a (x ∷ xs) ys e e' h left same = absurd (cc)
 
   -- what a reached limit leaves
   left_over : {k : ℕ} {a : Held M} {others now : List Record} {e : Ending} → Stops a k k others now e Limit → now ≡ others

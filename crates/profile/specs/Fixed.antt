@@ -1,5 +1,5 @@
 -- What a read-in was given fixes what it answers and what it leaves. Assumes nothing.
-use Rattle.std.specs.Prelude.{◌≡◌, ℕ, List}
+use Rattle.std.specs.Prelude.{◌≡◌, ◌≢◌, ℕ, List}
 use Rattle.trace.specs.declared.record.Record.{Record}
 use Rattle.trace.specs.Sources.{Ending}
 use Rattle.metrics.specs.Measures.{Measure}
@@ -24,4 +24,4 @@ ReadsFixed {M} m = (a b c : Held M) (records left left' : List Record) (e f f' :
 
 -- A rejection of what a source delivers is never for a field out of range.
 abbrev pub NeverOutOfRange : Stop → Type 0
-NeverOutOfRange stop = stop ≡ Rejected OutOfRange → ⊥
+NeverOutOfRange stop = stop ≢ Rejected OutOfRange
