@@ -1,10 +1,12 @@
 -- A part of a row that the code reads or writes, in the list of that part. Assumes nothing.
-use Rattle.std.proofs.Common.{◌≡◌, ℕ, ◌<◌, List, map, length, get_or, set, sym, ap, ◌∙◌}
+use Rattle.std.proofs.Common.{◌≡◌, ℕ, ◌<◌, ◌≤◌, List, map, length, get_or, set, sym, ap, ◌∙◌, ⊎_elim, length-set}
 use lib.Seq.{set-get_or}
 use Rattle.std.proofs.lemmas.List.{get_or-map, map-set, length-map}
 use Rattle.rows.specs.declared.row.Row.{Row}
 use Rattle.rows.specs.Cells.{values, marks, heads, links}
-use Rattle.rows.specs.Shapes.{shape, shapes}
+use Rattle.std.proofs.lemmas.Bool.{cases_lt, cond-true, cond-false, lt-ltb, le-ltb}
+use Rattle.rows.specs.Shapes.{Shape, shapes, child}
+use Rattle.rows.specs.Steps.{grown}
 
 -- ---- any part
 module _ {M X : Type 0} (part : Row M → X) (rows : List (Row M)) (i : ℕ) where
@@ -20,7 +22,17 @@ module _ {M X : Type 0} (part : Row M → X) (rows : List (Row M)) (i : ℕ) whe
 
 -- ---- lengths
 pub long : {M : Type 0} (rows : List (Row M)) → length (shapes rows) ≡ length rows
-long rows = length-map rows shape
+long rows = length-map rows (λ (r : Row _). r.shape)
+
+-- where the shapes are as many, so are the rows
+pub as_long : {M : Type 0} (rows rows' : List (Row M)) → length (shapes rows') ≡ length (shapes rows) → length rows' ≡ length rows
+as_long rows rows' e = sym (long rows') ∙ e ∙ long rows
+
+pub long_grown : (s : List Shape) (n up f c : ℕ) → length (grown s n up f c) ≡ length s
+long_grown s n up f c = ⊎_elim
+    (λ (l : c < n). ap length (cond-true _ _ _ (lt-ltb c n l)))
+    (λ (l : n ≤ c). ap length (cond-false _ _ _ (le-ltb c n l)) ∙ length-set s n (child s up f))
+    (cases_lt c n)
 
 pub long_values : {M V : Type 0} (means : M → V) (rows : List (Row M)) → length (values means rows) ≡ length (shapes rows)
 long_values means rows = length-map rows (λ (r : Row _). means r.value) ∙ sym (long rows)
