@@ -8,7 +8,8 @@ use Rattle.rows.specs.declared.rejection.Rejection.TheVariants.{OutOfRange, Tabl
 use Rattle.model.specs.Positions.{Path, Position, at, same, returned, unwound, move}
 use Rattle.metrics.specs.Measures.{Measure, Laws}
 use Rattle.model.specs.Summaries.{Summary, any_of, added}
-use Rattle.rows.specs.Shapes.{Shape, blank, root}
+use Rattle.rows.specs.declared.row.Shape.{Shape}
+use Rattle.rows.specs.Shapes.{blank, root}
 use Rattle.rows.specs.Sound.{Sound}
 use Rattle.rows.specs.Index.{Found}
 use Rattle.rows.specs.Steps.{Entered, Refused, grownValues}

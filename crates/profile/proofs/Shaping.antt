@@ -2,7 +2,8 @@
 use Rattle.std.proofs.Common.{◌≡◌, ℕ, zero, suc, ◌<◌, ◌≤◌, List, length, get_or, take, sym, ap, ◌∙◌, ⊎_elim, add-one, arith, length-take, get_or-take}
 use Rattle.std.proofs.lemmas.Bool.{cases_eq, cond-true, cond-false, eq-eqb, ne_eqb}
 use Rattle.rows.specs.declared.shape.ShapeRow.{ShapeRow}
-use Rattle.rows.specs.Shapes.{Shape, blank}
+use Rattle.rows.specs.declared.row.Shape.{Shape}
+use Rattle.rows.specs.Shapes.{blank}
 use Rattle.rows.specs.ShapeColumn.{no_row, function_at, parent_at, steps_up, IsRooted, IsShape}
 use Rattle.rows.specs.Columns.{Shaped}
 use Rattle.rows.specs.Sound.{Table}

@@ -5,7 +5,8 @@ use Rattle.metrics.specs.Measures.{Measure, Laws}
 use Rattle.metrics.specs.Joins.{joins}
 use Rattle.model.specs.Positions.{Path, Position, at, same}
 use Rattle.model.specs.Summaries.{any_of}
-use Rattle.rows.specs.Shapes.{Shape, blank}
+use Rattle.rows.specs.declared.row.Shape.{Shape}
+use Rattle.rows.specs.Shapes.{blank}
 use Rattle.rows.specs.Sound.{Table}
 use Rattle.rows.specs.Reading.{context, listed}
 use Rattle.rows.proofs.Sounds.{top_one, level_low, roots_rise}

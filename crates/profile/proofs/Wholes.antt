@@ -4,7 +4,8 @@ use Rattle.std.proofs.lemmas.Bool.{cases_eq, or_right}
 use Rattle.model.specs.Positions.{Position, at, same}
 use Rattle.metrics.specs.Measures.{Measure}
 use Rattle.model.specs.Summaries.{any_of, rooted}
-use Rattle.rows.specs.Shapes.{Shape, blank}
+use Rattle.rows.specs.declared.row.Shape.{Shape}
+use Rattle.rows.specs.Shapes.{blank}
 use Rattle.rows.specs.Sound.{Sound}
 use Rattle.rows.specs.Reading.{context, contexts, listed}
 use Rattle.profile.specs.Given.{Complete}

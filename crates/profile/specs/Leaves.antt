@@ -12,23 +12,23 @@ use Rattle.rows.specs.Flats.{tree_reading}
 
 -- the tree that the rows in use show; the open count is the depth of the row at which the open path ends
 abbrev pub tree_view : {M V : Type 0} → Measure V → (M → V) → Tree M → Meant V
-tree_view m means t = tree_reading m (shapes t.rows.now) (values means t.rows.now) t.count t.strays (slice_index_or (shapes t.rows.now) t.current blank).depth
+tree_view m means t = tree_reading m (shapes t.table.rows.now) (values means t.table.rows.now) t.table.count t.strays (slice_index_or (shapes t.table.rows.now) t.current blank).depth
 
 -- the path that the row k stands for
 abbrev pub row_path : {M : Type 0} → Tree M → ℕ → Path
-row_path t k = (context (shapes t.rows.now) k).path
+row_path t k = (context (shapes t.table.rows.now) k).path
 
 -- What holds of every tree in its table: there is a root, each path has a row, and no two rows have the same path.
 pub record Whole {M V : Type 0} (m : Measure V) (means : M → V) (t : Tree M) : Type 0 where
-  pub some : 0 < t.count
-  pub there : (k : ℕ) → k < t.count → (tree_view m means t).row (row_path t k) ≡ true
-  pub each : (q : Path) → (tree_view m means t).row q ≡ true → (k : ℕ) × (k < t.count) × (row_path t k ≡ q)
-  pub apart : (j k : ℕ) → j < t.count → k < t.count → row_path t j ≡ row_path t k → j ≡ k
-  pub shallow : (k : ℕ) → k < t.count → length (row_path t k) ≤ 512
+  pub some : 0 < t.table.count
+  pub there : (k : ℕ) → k < t.table.count → (tree_view m means t).row (row_path t k) ≡ true
+  pub each : (q : Path) → (tree_view m means t).row q ≡ true → (k : ℕ) × (k < t.table.count) × (row_path t k ≡ q)
+  pub apart : (j k : ℕ) → j < t.table.count → k < t.table.count → row_path t j ≡ row_path t k → j ≡ k
+  pub shallow : (k : ℕ) → k < t.table.count → length (row_path t k) ≤ 512
 
 -- x tells of the row k: its function and parent, which give its path, and its value
 pub record TellsRow {M V : Type 0} (m : Measure V) (means : M → V) (t : Tree M) (k : ℕ) (x : TreeRow M) : Type 0 where
-  pub within : k < t.count
+  pub within : k < t.table.count
   -- the root is row 0, has function 0 and itself as parent
   pub root : row_path t k ≡ [] → (k ≡ 0) × (x.function ≡ 0) × (x.parent ≡ k)
   -- any other has the parent's path, followed by its own function
@@ -37,5 +37,5 @@ pub record TellsRow {M V : Type 0} (m : Measure V) (means : M → V) (t : Tree M
 
 -- the row of that number, none beyond the rows
 abbrev pub AnswersRow : {M V : Type 0} → Measure V → (M → V) → Tree M → ℕ → Option (TreeRow M) → Type 0
-AnswersRow m means t k None = t.count ≤ k
+AnswersRow m means t k None = t.table.count ≤ k
 AnswersRow m means t k (Some x) = TellsRow m means t k x

@@ -12,7 +12,7 @@ use Rattle.profile.specs.Given.{Held}
 
 -- the summary that the rows in use show, their number, and the table's
 abbrev pub view : {M V : Type 0} → Measure V → (M → V) → Summary M → Held V
-view m means s = record { is = reading m (shapes s.rows.now) (values means s.rows.now) s.count s.current; count = s.count; room = length s.rows.now }
+view m means s = record { is = reading m (shapes s.table.rows.now) (values means s.table.rows.now) s.table.count s.current; count = s.table.count; room = length s.table.rows.now }
 
 -- a new summary is that of the empty list
 abbrev pub fresh : {V : Type 0} → Measure V → ℕ → Held V
@@ -20,16 +20,16 @@ fresh m room = record { is = summary m []; count = 1; room = room }
 
 -- the context that the row k stands for
 abbrev pub row_context : {M : Type 0} → Summary M → ℕ → Position
-row_context s k = context (shapes s.rows.now) k
+row_context s k = context (shapes s.table.rows.now) k
 
 -- r is the number of the open path's row
 pub record AnswersOpen {M V : Type 0} (m : Measure V) (means : M → V) (s : Summary M) (r : ℕ) : Type 0 where
-  pub within : r < s.count
+  pub within : r < s.table.count
   pub is : row_context s r ≡ (view m means s).is.end
 
 -- x tells of the row k: its level, its function and parent, which give its path, and its value
 pub record TellsRow {M V : Type 0} (m : Measure V) (means : M → V) (s : Summary M) (k : ℕ) (x : SummaryRow M) : Type 0 where
-  pub within : k < s.count
+  pub within : k < s.table.count
   pub there : (view m means s).is.row (row_context s k) ≡ true
   pub level : x.level ≡ (row_context s k).level
   -- a row with the empty path has function 0 and itself as parent
@@ -40,5 +40,5 @@ pub record TellsRow {M V : Type 0} (m : Measure V) (means : M → V) (s : Summar
 
 -- the row of that number, none beyond the rows
 abbrev pub AnswersRow : {M V : Type 0} → Measure V → (M → V) → Summary M → ℕ → Option (SummaryRow M) → Type 0
-AnswersRow m means s k None = s.count ≤ k
+AnswersRow m means s k None = s.table.count ≤ k
 AnswersRow m means s k (Some x) = TellsRow m means s k x

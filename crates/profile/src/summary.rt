@@ -1,8 +1,6 @@
 // The summary of a list of records, in a table of rows that its user lends.
-ghost use Rattle.std.specs.Prelude.{◌<◌, ◌≤◌, length};
+ghost use Rattle.std.specs.Prelude.{◌<◌};
 ghost use Rattle.rows.specs.Shapes.{shapes};
-ghost use Rattle.rows.specs.Cells.{heads, links};
-ghost use Rattle.rows.specs.Index.{Indexed};
 ghost use Rattle.rows.specs.Sound.{Sound};
 
 mod adding;
@@ -10,23 +8,19 @@ mod answering;
 mod finishing;
 
 pub use adding::check_table;
-use rows::row::Row;
+use rows::table::Table;
 
-// The first `count` rows are the summary's. Of every summary that exists it holds that no context comes twice and that with each path
-// there is the path without its last function (`sound`), and that the rows are in their chains (`indexed`).
+// The rows in use are the summary's. Of every summary that exists it holds that no context comes twice and that with each path there
+// is the path without its last function (`sound`).
 #[derive(Drop)]
 pub struct Summary<'a, M> {
-    rows: &'a mut [Row<M>],
-    count: usize,
+    table: Table<'a, M>,
     // the level where the list of records ends
     level: usize,
     // the row of the open path
     current: usize,
-    ghost fits: { count ≤ length rows.now },
-    ghost few: { length rows.now ≤ 65535 },
-    ghost opened: { current < count },
-    ghost sound: { ∥ Sound (shapes rows.now) count level current ∥₁ },
-    ghost indexed: { ∥ Indexed (shapes rows.now) (heads rows.now) (links rows.now) count ∥₁ },
+    ghost opened: { current < table.count },
+    ghost sound: { ∥ Sound (shapes table.rows.now) table.count level current ∥₁ },
 }
 
 // A row of a summary, as it is answered by number.

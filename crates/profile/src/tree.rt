@@ -1,26 +1,23 @@
 // The calling context tree of a summary, in the summary's table.
-ghost use Rattle.std.specs.Prelude.{◌<◌, ◌≤◌, length};
+ghost use Rattle.std.specs.Prelude.{◌<◌};
 ghost use Rattle.rows.specs.Shapes.{shapes};
-ghost use Rattle.rows.specs.Sound.{Table};
+ghost use Rattle.rows.specs.Sound.{Table as Levels};
 
 mod answering;
 mod filling;
 
-use rows::row::Row;
+use rows::table::Table;
 
 // In a tree a context is its path alone: one level is left. No row can be added any more.
 #[derive(Drop)]
 pub struct Tree<'a, M> {
-    pub(crate) rows: &'a mut [Row<M>],
-    pub(crate) count: usize,
+    pub(crate) table: Table<'a, M>,
     // how many levels the records rose above the first
     pub(crate) strays: usize,
     // the row at which the open path ends
     pub(crate) current: usize,
-    ghost fits: { count ≤ length rows.now },
-    ghost few: { length rows.now ≤ 65535 },
-    ghost opened: { current < count },
-    ghost sound: { ∥ Table (shapes rows.now) count 0 ∥₁ },
+    ghost opened: { current < table.count },
+    ghost sound: { ∥ Levels (shapes table.rows.now) table.count 0 ∥₁ },
 }
 
 // A row of a tree, as it is answered by number.

@@ -1,11 +1,10 @@
 -- What the index of children gives, and how it grows. Assumes nothing.
-use Rattle.std.proofs.Common.{◌≡◌, ℕ, zero, suc, ◌+◌, ◌<◌, ◌≤◌, cond, eqb, List, length, get_or, set, sym, refl, ap, ◌∙◌, subst, ap₂, ⊎_elim, add-one, arith, get_or-set_other, get_or-set_same}
+use Rattle.std.proofs.Common.{◌≡◌, ℕ, zero, suc, Some, None, Option, SomeIff, ◌+◌, ◌-◌, ◌<◌, ◌≤◌, cond, eqb, List, length, get_or, set, sym, refl, ap, ◌∙◌, subst, ap₂, ⊎_elim, add-one, arith, get_or-set_other, get_or-set_same}
 use mathlib.Core.Logic.{∥∥₁_elim}
 use denote.Struct.Props.{props}
 use Rattle.std.proofs.lemmas.Bool.{cases_eq, cond-true, cond-false, eq-eqb, ne_eqb}
 use Rattle.rows.specs.Shapes.{Shape, blank}
-use Rattle.rows.specs.Cells.{IndexSame}
-use Rattle.rows.specs.Index.{slot, place_of, newest, Indexed}
+use Rattle.rows.specs.Index.{chained, slot, place_of, newest, Indexed}
 
 -- ---- the newest row at a place
 pub newest_here : (s : List Shape) (h n : ℕ) → place_of s n ≡ h → newest s h (suc n) ≡ suc n
@@ -82,13 +81,17 @@ indexed_prop s heads links n p q =
 pub whole_index : {s : List Shape} {heads links : List ℕ} {n : ℕ} → ∥ Indexed s heads links n ∥₁ → Indexed s heads links n
 whole_index {s} {heads} {links} {n} h = ∥∥₁_elim h (indexed_prop s heads links n) (λ x. x)
 
--- the steps of `link`, as the code leaves them
-pub indexed_linked : (s s' : List Shape) (heads heads' links links' : List ℕ) (n h first : ℕ) → n < length s → length heads ≡ length s → length links ≡ length s → Indexed s heads links n
-    → h ≡ place_of s n → h < length s → first ≡ get_or heads h 0 → s' ≡ s → heads' ≡ set heads h (n + 1) → links' ≡ set links n first → Indexed s' heads' links' (suc n)
-indexed_linked s s' heads heads' links links' n h first room lh ll x e low ef es eh el =
-    rw (es, eh, el, ef, add-one n) (indexed_more s heads links n room lh ll x h e low)
+-- what `chain` leaves
+pub indexed_linked : (s s' : List Shape) (heads heads' links links' : List ℕ) (n h : ℕ) → n < length s → length heads ≡ length s → length links ≡ length s → Indexed s heads links n
+    → h ≡ place_of s n → h < length s → s' ≡ s → heads' ≡ set heads h (n + 1) → links' ≡ set links n (get_or heads h 0) → Indexed s' heads' links' (n + 1)
+indexed_linked s s' heads heads' links links' n h room lh ll x e low es eh el =
+    rw (es, eh, el, add-one n) (indexed_more s heads links n room lh ll x h e low)
 
 -- ---- the search along a chain
+pub chained_less : (o : Option ℕ) (n : ℕ) → SomeIff o (1 ≤ n) (n - 1) → chained o ≡ n
+chained_less None n h = omega arith
+chained_less (Some i) n h = omega arith
+
 -- The search stands before the row after - 1, or at the end where after is 0: a row of f below up can only come from there on.
 pub record Chasing (s : List Shape) (count up f after : ℕ) : Type 0 where
   pub within : after ≤ count
@@ -125,5 +128,5 @@ module _ (s : List Shape) (heads links : List ℕ) (count up f : ℕ) (x : Index
   chase_falls after i next ea c en = omega (arith, en, x.after i (omega (arith, c.within)), newest_low s (place_of s i) i)
 
 -- where shapes and chains stay, so does the index
-pub indexed_moved : (s s' : List Shape) (h h' l l' : List ℕ) (n : ℕ) → s' ≡ s → IndexSame h h' l l' → Indexed s h l n → Indexed s' h' l' n
-indexed_moved s s' h h' l l' n es e x = rw (es, e.heads, e.links) x
+pub indexed_moved : (s s' : List Shape) (h h' l l' : List ℕ) (n : ℕ) → s' ≡ s → h' ≡ h → l' ≡ l → ∥ Indexed s h l n ∥₁ → ∥ Indexed s' h' l' n ∥₁
+indexed_moved s s' h h' l l' n es eh el x = rw (es, eh, el) x

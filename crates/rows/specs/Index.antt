@@ -1,7 +1,11 @@
 -- The index of children, which lies in the rows themselves: for each place of the table a chain of the rows whose parent and function
 -- have that place, the newest first. In chains a row is held as its number plus 1, and 0 is none. Assumes nothing.
-use Rattle.std.specs.Prelude.{◌≡◌, ℕ, zero, suc, ◌+◌, ◌*◌, ◌%◌, ◌<◌, ◌≤◌, cond, List, length, ◌==◌, ◌≢◌, slice_index, slice_index_or}
+use Rattle.std.specs.Prelude.{◌≡◌, ℕ, zero, suc, ◌+◌, ◌*◌, ◌%◌, ◌<◌, ◌≤◌, cond, List, length, ◌==◌, ◌≢◌, Some, None, Option, slice_index, slice_index_or}
 use Rattle.rows.specs.Shapes.{Shape, blank}
+
+abbrev pub chained : Option ℕ → ℕ
+chained None = 0
+chained (Some i) = suc i
 
 -- the place of a parent and a function in a table of so many places
 abbrev pub slot : ℕ → ℕ → ℕ → ℕ
@@ -27,3 +31,8 @@ pub record Found (s : List Shape) (count up f r : ℕ) : Type 0 where
   pub is_parent : r < count → (slice_index_or s r blank).parent ≡ up
   pub is_function : r < count → (slice_index_or s r blank).function ≡ f
   pub absent : count ≤ r → (k : ℕ) → k < count → (slice_index_or s k blank).parent ≡ up → (slice_index_or s k blank).function ≢ f
+
+-- what a search for the row of f below up among the first count rows answers
+abbrev pub Finds : List Shape → ℕ → ℕ → ℕ → Option ℕ → Type 0
+Finds s count up f (Some r) = (r < count) × Found s count up f r
+Finds s count up f None = Found s count up f count

@@ -1,20 +1,12 @@
 -- A row without its value. Assumes nothing.
 use Rattle.std.specs.Prelude.{ℕ, ◌+◌, List, map, slice_index_or}
 use Rattle.rows.specs.declared.row.Row.{Row}
-
 -- its level, the last function of its path (0 where that is empty), the row of the path without that function (itself where there is
 -- none), and the path's length
-pub record Shape : Type 0 where
-  pub level : ℕ
-  pub function : ℕ
-  pub parent : ℕ
-  pub depth : ℕ
-
-abbrev pub shape : {M : Type 0} → Row M → Shape
-shape r = record { level = r.level; function = r.function; parent = r.parent; depth = r.depth }
+pub use Rattle.rows.specs.declared.row.Shape.{Shape}
 
 abbrev pub shapes : {M : Type 0} → List (Row M) → List Shape
-shapes rows = map shape rows
+shapes rows = map (λ r. r.shape) rows
 
 -- what stands beyond a list's end
 abbrev pub blank : Shape
@@ -27,6 +19,3 @@ child s up f = record { level = (slice_index_or s up blank).level; function = f;
 -- the row n with the empty path, of a level
 abbrev pub root : ℕ → ℕ → Shape
 root level n = record { level = level; function = 0; parent = n; depth = 0 }
-
-abbrev pub written : ℕ → ℕ → ℕ → ℕ → Shape
-written l f p d = record { level = l; function = f; parent = p; depth = d }

@@ -3,7 +3,7 @@ use Rattle.std.specs.Prelude.{◌≡◌, ℕ, ◌+◌, ◌<◌, ◌≤◌, max, 
 use Rattle.rows.specs.declared.rejection.Rejection.{Rejection}
 use Rattle.rows.specs.declared.rejection.Rejection.TheVariants.{OutOfRange, TableSize, TooFewRows, PathTooLong}
 use Rattle.rows.specs.Shapes.{Shape, blank, child}
-use Rattle.rows.specs.Index.{Indexed, Found}
+use Rattle.rows.specs.Index.{Found}
 
 -- a row of f below up at c, made if c is n
 abbrev pub grown : List Shape → ℕ → ℕ → ℕ → ℕ → List Shape
@@ -50,7 +50,7 @@ abbrev pub Enter : {V : Type 0} → V → (V → V → V) → V → List Shape �
 Enter none op w s s' v v' n up f (Ok c) = Entered none op w s s' v v' n up f c
 Enter none op w s s' v v' n up f (Err e) = (s' ≡ s) × (v' ≡ v) × Refused s n up f e
 
--- the rows in use are in their chains
-abbrev pub Reindexed : List Shape → List ℕ → List ℕ → ℕ → Result ℕ Rejection → Type 0
-Reindexed s heads links n (Ok c) = Indexed s heads links (max n (c + 1))
-Reindexed s heads links n (Err e) = Indexed s heads links n
+-- how many rows are in use then
+abbrev pub Counted : ℕ → ℕ → Result ℕ Rejection → Type 0
+Counted n n' (Ok c) = n' ≡ max n (c + 1)
+Counted n n' (Err e) = n' ≡ n

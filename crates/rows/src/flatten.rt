@@ -1,69 +1,49 @@
-// The rows of a summary become those of its tree, in the same table: all levels become one, and rows of equal path meet.
-ghost use Rattle.std.specs.Prelude.{◌≡◌, ◌+◌, ◌<◌, ◌≤◌, max, length, slice_index_or, slice_set};
+// The rows of a summary become those of its tree, in the same slice: all levels become one, and rows of equal path meet.
+ghost use Rattle.std.specs.Prelude.{◌≡◌, ◌+◌, ◌<◌, max, length};
 ghost use Rattle.rows.specs.Shapes.{shapes};
-ghost use Rattle.rows.specs.Cells.{values, marks, heads, links, IndexSame};
-ghost use Rattle.rows.specs.Index.{Indexed};
-ghost use Rattle.rows.specs.Sound.{Table};
+ghost use Rattle.rows.specs.Cells.{values, marks};
+ghost use Rattle.rows.specs.Sound.{Table as Levels};
 ghost use Rattle.rows.specs.Flats.{Ready, Seated, Flattening};
 
-use crate::cell::{book, look, note, set_value, value_of};
-use crate::index::{clear, link};
-use crate::row::Row;
-use crate::table::place;
+use crate::table::Table;
 use metrics::metric::Metric;
 
-// Takes the value of the row i out, and leaves the unit.
-fn take<M: Metric>(rows: &mut [Row<M>], i: usize) -> M
-    requires { i < length rows.old }
-    ensures same { shapes rows.new ≡ shapes rows.old }
-    ensures held { values M.means rows.new ≡ slice_set (values M.means rows.old) i M.measure.none }
-    ensures noted { marks rows.new ≡ marks rows.old }
-    ensures index { IndexSame (heads rows.old) (heads rows.new) (links rows.old) (links rows.new) }
-    ensures value { M.means result ≡ slice_index_or (values M.means rows.old) i M.measure.none }
-{
-    let value = value_of(rows, i);
-    set_value(rows, i, M::unit());
-    value
-}
-
-// Moves the row i into the tree that stands in the first c rows, and answers its row there.
-fn flatten_row<M: Metric>(rows: &mut [Row<M>], c: usize, i: usize) -> usize
-    requires fits { i < length rows.old }
-    requires few { length rows.old ≤ 65535 }
-    requires ready { Ready (shapes rows.old) (marks rows.old) c i }
-    requires indexed { Indexed (shapes rows.old) (heads rows.old) (links rows.old) c }
-    ensures seated { Seated M.measure (shapes rows.old) (shapes rows.new) (values M.means rows.old) (values M.means rows.new) (marks rows.old) (marks rows.new) c i result }
-    ensures indexed { Indexed (shapes rows.new) (heads rows.new) (links rows.new) (max c (result + 1)) }
-{
-    let seen = look(rows, i);
-    let value = take(rows, i);
-    if seen.function == 0 {
-        book(rows, 0, value);
-        note(rows, i, 0);
-        return 0;
+impl<'a, M: Metric> Table<'a, M> {
+    // Moves the row i, which stands behind the tree's rows, into the tree, and answers its row there.
+    fn flatten_row(&mut self, i: usize) -> usize
+        requires inside { i < length self.old.rows.now }
+        requires ready { Ready (shapes self.old.rows.now) (marks self.old.rows.now) self.old.count i }
+        ensures seated { Seated M.measure (shapes self.old.rows.now) (shapes self.new.rows.now) (values M.means self.old.rows.now) (values M.means self.new.rows.now) (marks self.old.rows.now) (marks self.new.rows.now) self.old.count i result }
+        ensures count { self.new.count ≡ max self.old.count (result + 1) }
+    {
+        let shape = self.look(i);
+        let value = self.take(i);
+        if shape.function == 0 {
+            self.book(0, value);
+            self.note(i, 0);
+            return 0;
+        }
+        let up = self.mark_of(usize::from(shape.parent));
+        let to = self.place(up, shape.function);
+        self.book(to, value);
+        self.note(i, to);
+        to
     }
-    let up = look(rows, seen.parent).mark;
-    let to = place(rows, c, up, seen.function);
-    book(rows, to, value);
-    note(rows, i, to);
-    to
-}
 
-// Makes the first n rows, of the levels 0 to top, those of the tree, and answers how many it has. A row never goes behind the
-// place that it is read from, so nothing is lost.
-pub fn flatten<M: Metric>(rows: &mut [Row<M>], n: usize, top: usize) -> usize
-    requires fits { n ≤ length rows.old }
-    requires few { length rows.old ≤ 65535 }
-    requires table { Table (shapes rows.old) n top }
-    ensures { Flattening M.measure (shapes rows.old) (shapes rows.new) (values M.means rows.old) (values M.means rows.new) (marks rows.new) result n }
-{
-    clear(rows);
-    link(rows, 0);
-    note(rows, 0, 0);
-    let mut c = 1;
-    for i in 1..n {
-        let to = flatten_row(rows, c, i);
-        c = c.max(to + 1);
+    // Makes the rows in use, of the levels 0 to top, those of the tree. A row never goes behind the place that it is read from, so
+    // nothing is lost.
+    pub fn flatten(self, top: usize) -> Table<'a, M>
+        requires { Levels (shapes self.rows.now) self.count top }
+        ensures long { length result.rows.now ≡ length self.entry.rows.now }
+        ensures flat { Flattening M.measure (shapes self.entry.rows.now) (shapes result.rows.now) (values M.means self.entry.rows.now) (values M.means result.rows.now) (marks result.rows.now) result.count self.entry.count }
+    {
+        let Table { rows, count: n } = self;
+        let mut tree = Table::new(rows);
+        tree.take_in();
+        tree.note(0, 0);
+        for i in 1..n {
+            let _ = tree.flatten_row(i);
+        }
+        tree
     }
-    c
 }

@@ -1,8 +1,7 @@
-// The table of rows that summaries and trees stand in, and the work on plain slices of rows.
+// The table of rows that summaries and trees stand in, and what is done with its rows.
 
 #![tactic(auto)]
 
-pub mod cell;
 pub mod column;
 pub mod flatten;
 pub mod index;

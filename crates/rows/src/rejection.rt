@@ -15,12 +15,12 @@ pub enum Rejection {
     PathTooLong,
 }
 
-impl Rejection {
-    // The number by which a rejection is printed.
-    pub fn number(self) -> u8
-        ensures { result ≡ number self }
-    {
-        match self {
+// The number by which a rejection is printed.
+impl From<Rejection> for u8 {
+    ghost from_gives = { λ rejection n. n ≡ number rejection };
+
+    fn from(rejection: Rejection) -> u8 {
+        match rejection {
             Rejection::OutOfRange => 4,
             Rejection::TableSize => 8,
             Rejection::TooFewRows => 9,

@@ -1,19 +1,41 @@
 // A row of the table that a user lends.
-ghost use Rattle.std.specs.Prelude.{◌≡◌};
+ghost use Rattle.std.specs.Prelude.{◌≡◌, ◌≤◌};
+ghost use Rattle.rows.specs.Shapes.{root};
 
 use metrics::metric::Metric;
 
-// A row stands for a context: its path is read along the parents up to a row with the empty path. A table has at most 65,535
+// What a row says of its context: the path is read along the parents up to a row with the empty path. A table has at most 65,535
 // rows, so 16 bits hold each of these numbers.
 #[derive(Clone, Copy)]
-pub struct Row<M> {
-    pub(crate) level: u16,
+pub struct Shape {
+    pub level: u16,
     // the last function of the path, 0 where it is empty
-    pub(crate) function: u16,
+    pub function: u16,
     // the row of the path without its last function, the row itself where the path is empty
-    pub(crate) parent: u16,
+    pub parent: u16,
     // the length of the path
-    pub(crate) depth: u16,
+    pub depth: u16,
+}
+
+impl Shape {
+    // The row n with the empty path, of a level.
+    pub fn root(level: usize, n: usize) -> Shape
+        requires { (level ≤ 65535) × (n ≤ 65535) }
+        ensures { result ≡ root level n }
+    {
+        Shape {
+            level: level as u16,
+            function: 0,
+            parent: n as u16,
+            depth: 0,
+        }
+    }
+}
+
+// A row stands for a context, and holds its value.
+#[derive(Clone, Copy)]
+pub struct Row<M> {
+    pub(crate) shape: Shape,
     // where the row went, while rows are moved
     pub(crate) mark: u16,
     // The first row of the chain that belongs to this place, plus 1; 0 is none. It has nothing to do with the row that stands here.
@@ -29,24 +51,11 @@ impl<M: Metric> Row<M> {
         ensures { M.means result.value ≡ M.measure.none }
     {
         Row {
-            level: 0,
-            function: 0,
-            parent: 0,
-            depth: 0,
+            shape: Shape::root(0, 0),
             mark: 0,
             head: 0,
             next: 0,
             value: M::unit(),
         }
     }
-}
-
-// A row without its value and its chain.
-#[derive(Clone, Copy)]
-pub struct Seen {
-    pub level: usize,
-    pub function: u16,
-    pub parent: usize,
-    pub depth: usize,
-    pub mark: usize,
 }

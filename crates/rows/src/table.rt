@@ -1,86 +1,109 @@
-// One step in a table of rows: a call's, or a return's at the empty path.
-ghost use Rattle.std.specs.Prelude.{◌≡◌, ◌+◌, ◌<◌, ◌≤◌, max, length, slice_index_or};
-ghost use Rattle.rows.specs.Shapes.{shapes, blank};
+// The table of rows that summaries and trees stand in.
+ghost use Rattle.std.specs.Prelude.{◌≡◌, ◌+◌, ◌<◌, ◌≤◌, length, slice_index_or, slice_set};
+ghost use Rattle.rows.specs.Shapes.{shapes};
 ghost use Rattle.rows.specs.Cells.{values, marks, heads, links};
-ghost use Rattle.rows.specs.Index.{Indexed};
-ghost use Rattle.rows.specs.Steps.{Reached, Reach, Enter, Reindexed};
+ghost use Rattle.rows.specs.Index.{place_of, Indexed};
 
-use crate::cell::{book, look};
-use crate::index::{child, push};
-use crate::rejection::Rejection;
-use crate::row::Row;
+mod answering;
+mod stepping;
+
+use crate::index::{chain, clear, put, slot_of};
+use crate::row::{Row, Shape};
 use metrics::metric::Metric;
 
-// The most functions that a path has.
-const MOST_DEPTH: usize = 512;
-
-// The row of the function below `up`, made with the unit where there is none.
-pub(crate) fn place<M: Metric>(rows: &mut [Row<M>], count: usize, up: usize, function: u16) -> usize
-    requires fits { count < length rows.old }
-    requires few { length rows.old ≤ 65535 }
-    requires below { up < count }
-    requires shallow { (slice_index_or (shapes rows.old) up blank).depth < 512 }
-    requires indexed { Indexed (shapes rows.old) (heads rows.old) (links rows.old) count }
-    ensures reached { Reached M.measure.none (shapes rows.old) (shapes rows.new) (values M.means rows.old) (values M.means rows.new) count up function result }
-    ensures noted { marks rows.new ≡ marks rows.old }
-    ensures indexed { Indexed (shapes rows.new) (heads rows.new) (links rows.new) (max count (result + 1)) }
-{
-    let seen = look(rows, up);
-    let at = child(rows, count, up, function);
-    if at < count {
-        return at;
-    }
-    push(rows, count, seen.level, function, up, seen.depth + 1);
-    count
+// The first `count` rows of a slice that the user lends are in use, and are in their chains (`indexed`).
+#[derive(Drop)]
+pub struct Table<'a, M> {
+    pub(crate) rows: &'a mut [Row<M>],
+    pub(crate) count: usize,
+    ghost fits: { count ≤ length rows.now },
+    ghost few: { length rows.now ≤ 65535 },
+    ghost indexed: { ∥ Indexed (shapes rows.now) (heads rows.now) (links rows.now) count ∥₁ },
 }
 
-// The same, where the path may be too long or the table full.
-pub(crate) fn reach<M: Metric>(
-    rows: &mut [Row<M>],
-    count: usize,
-    up: usize,
-    function: u16,
-) -> Result<usize, Rejection>
-    requires fits { count ≤ length rows.old }
-    requires few { length rows.old ≤ 65535 }
-    requires below { up < count }
-    requires indexed { Indexed (shapes rows.old) (heads rows.old) (links rows.old) count }
-    ensures reached { Reach M.measure.none (shapes rows.old) (shapes rows.new) (values M.means rows.old) (values M.means rows.new) count up function result }
-    ensures indexed { Reindexed (shapes rows.new) (heads rows.new) (links rows.new) count result }
-{
-    if look(rows, up).depth >= MOST_DEPTH {
-        return Err(Rejection::PathTooLong);
+impl<'a, M: Metric> Table<'a, M> {
+    // A table with no row in use.
+    pub fn new(rows: &'a mut [Row<M>]) -> Table<'a, M>
+        requires { length rows.old ≤ 65535 }
+        ensures same { shapes result.rows.now ≡ shapes rows.old }
+        ensures held { values M.means result.rows.now ≡ values M.means rows.old }
+        ensures none { result.count ≡ 0 }
+    {
+        clear(rows);
+        Table { rows, count: 0 }
     }
-    if count < rows.len() {
-        return Ok(place(rows, count, up, function));
-    }
-    let at = child(rows, count, up, function);
-    if at < count {
-        Ok(at)
-    } else {
-        Err(Rejection::TooFewRows)
-    }
-}
 
-// The same, with the value of a call joined.
-pub fn enter<M: Metric>(
-    rows: &mut [Row<M>],
-    count: usize,
-    up: usize,
-    function: u16,
-) -> Result<usize, Rejection>
-    requires fits { count ≤ length rows.old }
-    requires few { length rows.old ≤ 65535 }
-    requires below { up < count }
-    requires indexed { Indexed (shapes rows.old) (heads rows.old) (links rows.old) count }
-    ensures entered { Enter M.measure.none M.measure.join M.measure.of_call (shapes rows.old) (shapes rows.new) (values M.means rows.old) (values M.means rows.new) count up function result }
-    ensures indexed { Reindexed (shapes rows.new) (heads rows.new) (links rows.new) count result }
-{
-    match reach(rows, count, up, function) {
-        Ok(at) => {
-            book(rows, at, M::of_call());
-            Ok(at)
-        }
-        Err(e) => Err(e),
+    // The place of the row i in the index.
+    fn slot_at(&self, i: usize) -> usize
+        requires { i < length self.now.rows.now }
+        ensures is { result ≡ place_of (shapes self.now.rows.now) i }
+        ensures within { result < length self.now.rows.now }
+    {
+        let shape = self.look(i);
+        slot_of(self.rows.len(), usize::from(shape.parent), shape.function)
+    }
+
+    // Keeps where the row i went.
+    pub(crate) fn note(&mut self, i: usize, to: usize)
+        requires row { i < length self.old.rows.now }
+        requires small { to ≤ 65535 }
+        ensures same { shapes self.new.rows.now ≡ shapes self.old.rows.now }
+        ensures held { values M.means self.new.rows.now ≡ values M.means self.old.rows.now }
+        ensures noted { marks self.new.rows.now ≡ slice_set (marks self.old.rows.now) i to }
+        ensures count { self.new.count ≡ self.old.count }
+    {
+        self.rows[i].mark = to as u16;
+    }
+
+    // Joins a value to that of the row i.
+    pub fn book(&mut self, i: usize, value: M)
+        requires { i < length self.old.rows.now }
+        ensures same { shapes self.new.rows.now ≡ shapes self.old.rows.now }
+        ensures held { values M.means self.new.rows.now ≡ slice_set (values M.means self.old.rows.now) i (M.measure.join (slice_index_or (values M.means self.old.rows.now) i M.measure.none) (M.means value)) }
+        ensures noted { marks self.new.rows.now ≡ marks self.old.rows.now }
+        ensures count { self.new.count ≡ self.old.count }
+    {
+        let own = self.rows[i].value;
+        self.rows[i].value = own.join(value);
+    }
+
+    // Takes the value of the row i out, and leaves the unit.
+    pub(crate) fn take(&mut self, i: usize) -> M
+        requires { i < length self.old.rows.now }
+        ensures same { shapes self.new.rows.now ≡ shapes self.old.rows.now }
+        ensures held { values M.means self.new.rows.now ≡ slice_set (values M.means self.old.rows.now) i M.measure.none }
+        ensures noted { marks self.new.rows.now ≡ marks self.old.rows.now }
+        ensures count { self.new.count ≡ self.old.count }
+        ensures value { M.means result ≡ slice_index_or (values M.means self.old.rows.now) i M.measure.none }
+    {
+        let value = self.rows[i].value;
+        self.rows[i].value = M::unit();
+        value
+    }
+
+    // Takes the row after those in use into use as it is.
+    pub(crate) fn take_in(&mut self)
+        requires { self.old.count < length self.old.rows.now }
+        ensures same { shapes self.new.rows.now ≡ shapes self.old.rows.now }
+        ensures held { values M.means self.new.rows.now ≡ values M.means self.old.rows.now }
+        ensures noted { marks self.new.rows.now ≡ marks self.old.rows.now }
+        ensures count { self.new.count ≡ self.old.count + 1 }
+    {
+        let n = self.count;
+        let h = self.slot_at(n);
+        chain(self.rows, n, h);
+        self.count = n + 1;
+    }
+
+    // Puts a row with the unit after those in use.
+    pub fn push(&mut self, shape: Shape)
+        requires { self.old.count < length self.old.rows.now }
+        ensures same { shapes self.new.rows.now ≡ slice_set (shapes self.old.rows.now) self.old.count shape }
+        ensures held { values M.means self.new.rows.now ≡ slice_set (values M.means self.old.rows.now) self.old.count M.measure.none }
+        ensures noted { marks self.new.rows.now ≡ marks self.old.rows.now }
+        ensures count { self.new.count ≡ self.old.count + 1 }
+    {
+        put(self.rows, self.count, shape);
+        self.take_in();
     }
 }

@@ -1,18 +1,15 @@
 // New summaries, and one record more.
-ghost use Rattle.std.specs.Prelude.{◌≡◌, ◌<◌, ◌≤◌, length};
+ghost use Rattle.std.specs.Prelude.{◌≡◌, ◌<◌, ◌≤◌, length, slice_index_or};
 ghost use Rattle.trace.specs.declared.record.Record.TheVariants.{Call, Return, Unwind, Sample as Sampled};
-ghost use Rattle.rows.specs.Shapes.{shapes};
-ghost use Rattle.rows.specs.Cells.{marks, Saw};
+ghost use Rattle.rows.specs.Shapes.{shapes, blank};
 ghost use Rattle.profile.specs.Given.{Given, tabled};
 ghost use Rattle.profile.specs.View.{view, fresh};
 
 use super::Summary;
 use metrics::metric::Metric;
-use rows::cell::{book, look};
-use rows::index::{clear, push};
 use rows::rejection::Rejection;
-use rows::row::{Row, Seen};
-use rows::table::enter;
+use rows::row::{Row, Shape};
+use rows::table::Table;
 use trace::record::{Record, Sample};
 
 // Whether a summary can stand in a table of so many rows: asked before a summary is made.
@@ -32,21 +29,20 @@ impl<'a, M: Metric> Summary<'a, M> {
         requires few { length rows.old ≤ 65535 }
         ensures { view M.measure M.means result ≡ fresh M.measure (length rows.old) }
     {
-        clear(rows);
-        push(rows, 0, 0, 0, 0, 0);
+        let mut table = Table::new(rows);
+        table.push(Shape::root(0, 0));
         Summary {
-            rows,
-            count: 1,
+            table,
             level: 0,
             current: 0,
         }
     }
 
     // The open path's row, without its value.
-    fn at_open(&self) -> Seen
-        ensures { Saw (shapes self.now.rows.now) (marks self.now.rows.now) self.now.current result }
+    fn at_open(&self) -> Shape
+        ensures { result ≡ slice_index_or (shapes self.now.table.rows.now) self.now.current blank }
     {
-        look(self.rows, self.current)
+        self.table.look(self.current)
     }
 
     // Enters a function.
@@ -56,17 +52,8 @@ impl<'a, M: Metric> Summary<'a, M> {
         if function == 0 {
             return Err(Rejection::OutOfRange);
         }
-        let rows = std::mem::replace(&mut self.rows, &mut []);
-        let entered = enter(rows, self.count, self.current, function);
-        self.rows = rows;
-        match entered {
-            Ok(at) => {
-                self.count = self.count.max(at + 1);
-                self.current = at;
-                Ok(())
-            }
-            Err(e) => Err(e),
-        }
+        self.current = self.table.enter(self.current, function)?;
+        Ok(())
     }
 
     // Books a sample at the open path.
@@ -76,9 +63,7 @@ impl<'a, M: Metric> Summary<'a, M> {
         if !sample.is_in_range() {
             return Err(Rejection::OutOfRange);
         }
-        let rows = std::mem::replace(&mut self.rows, &mut []);
-        book(rows, self.current, M::of_sample(sample));
-        self.rows = rows;
+        self.table.book(self.current, M::of_sample(sample));
         Ok(())
     }
 
@@ -86,19 +71,16 @@ impl<'a, M: Metric> Summary<'a, M> {
     pub fn return_(&mut self) -> Result<(), Rejection>
         ensures { Given M.measure (view M.measure M.means self.old) (view M.measure M.means self.new) Return result }
     {
-        let seen = self.at_open();
-        if seen.function != 0 {
-            self.current = seen.parent;
+        let open = self.at_open();
+        if open.function != 0 {
+            self.current = usize::from(open.parent);
             return Ok(());
         }
-        let n = self.count;
-        if n >= self.rows.len() {
+        let n = self.table.count();
+        if n >= self.table.room() {
             return Err(Rejection::TooFewRows);
         }
-        let rows = std::mem::replace(&mut self.rows, &mut []);
-        push(rows, n, self.level + 1, 0, n, 0);
-        self.rows = rows;
-        self.count = n + 1;
+        self.table.push(Shape::root(self.level + 1, n));
         self.level += 1;
         self.current = n;
         Ok(())
@@ -112,11 +94,11 @@ impl<'a, M: Metric> Summary<'a, M> {
             return Err(Rejection::OutOfRange);
         }
         let deep = self.at_open().depth;
-        let room = self.rows.len() - self.count;
-        if count as usize > deep && count as usize - deep > room {
+        let room = self.table.room() - self.table.count();
+        if count > deep && usize::from(count - deep) > room {
             return Err(Rejection::TooFewRows);
         }
-        for i in 0..count {
+        for _ in 0..count {
             let _ = self.return_();
         }
         Ok(())

@@ -5,7 +5,6 @@ ghost use Rattle.profile.specs.View.{view, AnswersOpen, AnswersRow};
 
 use super::{Summary, SummaryRow};
 use metrics::metric::Metric;
-use rows::cell::{look, value_of};
 
 impl<'a, M: Metric> Summary<'a, M> {
     // The level where the records end.
@@ -27,7 +26,7 @@ impl<'a, M: Metric> Summary<'a, M> {
         ensures is { result ≡ (view M.measure M.means self.now).count }
         ensures complete { Complete (view M.measure M.means self.now) }
     {
-        self.count
+        self.table.count()
     }
 
     // The row of that number, none beyond the rows.
@@ -37,12 +36,12 @@ impl<'a, M: Metric> Summary<'a, M> {
         if number >= self.row_count() {
             return None;
         }
-        let seen = look(self.rows, number);
-        let value = value_of(self.rows, number);
+        let shape = self.table.look(number);
+        let value = self.table.value_of(number);
         Some(SummaryRow {
-            level: seen.level,
-            function: seen.function,
-            parent: seen.parent,
+            level: usize::from(shape.level),
+            function: shape.function,
+            parent: usize::from(shape.parent),
             value,
         })
     }

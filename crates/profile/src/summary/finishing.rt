@@ -7,8 +7,6 @@ ghost use Rattle.profile.specs.Leaves.{tree_view};
 use super::Summary;
 use crate::tree::Tree;
 use metrics::metric::Metric;
-use rows::cell::look;
-use rows::flatten::flatten;
 
 impl<'a, M: Metric> Summary<'a, M> {
     // Uses the summary up and makes its tree, in the same rows: all levels become one.
@@ -16,18 +14,16 @@ impl<'a, M: Metric> Summary<'a, M> {
         ensures { tree_view M.measure M.means result ≡ finished M.measure (view M.measure M.means self.entry).is }
     {
         let Summary {
-            rows,
-            count: n,
+            table,
             level,
             current,
         } = self;
-        let count = flatten(rows, n, level);
-        let open = look(rows, current).mark;
+        let table = table.flatten(level);
+        let current = table.mark_of(current);
         Tree {
-            rows,
-            count,
+            table,
             strays: level,
-            current: open,
+            current,
         }
     }
 }

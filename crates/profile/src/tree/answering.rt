@@ -4,7 +4,6 @@ ghost use Rattle.profile.specs.Leaves.{tree_view, Whole, AnswersRow};
 
 use super::{Tree, TreeRow};
 use metrics::metric::Metric;
-use rows::cell::{look, value_of};
 
 impl<'a, M: Metric> Tree<'a, M> {
     // How many returns of the records found no function to leave.
@@ -18,15 +17,15 @@ impl<'a, M: Metric> Tree<'a, M> {
     pub fn open(&self) -> usize
         ensures { result ≡ (tree_view M.measure M.means self.now).opened }
     {
-        look(self.rows, self.current).depth
+        usize::from(self.table.look(self.current).depth)
     }
 
     // How many rows there are: each of the tree's paths has one, and no two have the same.
     pub fn row_count(&self) -> usize
-        ensures is { result ≡ self.now.count }
+        ensures is { result ≡ self.now.table.count }
         ensures whole { Whole M.measure M.means self.now }
     {
-        self.count
+        self.table.count()
     }
 
     // The row of that number, none beyond the rows.
@@ -36,11 +35,11 @@ impl<'a, M: Metric> Tree<'a, M> {
         if number >= self.row_count() {
             return None;
         }
-        let seen = look(self.rows, number);
-        let value = value_of(self.rows, number);
+        let shape = self.table.look(number);
+        let value = self.table.value_of(number);
         Some(TreeRow {
-            function: seen.function,
-            parent: seen.parent,
+            function: shape.function,
+            parent: usize::from(shape.parent),
             value,
         })
     }

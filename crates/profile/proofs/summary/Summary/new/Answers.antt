@@ -1,27 +1,38 @@
-use Rattle.std.proofs.Common.{◌≡◌, ◌<◌, length, get_or, sym, refl, ap, ◌∙◌, subst, arith, get_or-set_same}
+use Rattle.std.proofs.Common.{◌≡◌, ◌<◌, length, get_or, set, sym, ap, ◌∙◌, subst, ap₂, arith, length-set, get_or-set_same}
 use Rattle.rows.specs.Shapes.{shapes, blank}
 use Rattle.rows.specs.Cells.{values}
 use Rattle.rows.specs.Sound.{Sound}
-use Rattle.rows.proofs.Views.{long, long_values}
+use Rattle.rows.specs.Reading.{reading}
+use Rattle.rows.proofs.Views.{as_long, long, long_values}
 use Rattle.rows.proofs.Sounds.{table_new}
 use Rattle.rows.proofs.Bridge.{reading_new}
 use Rattle.profile.proofs.Giving.{held_path}
 use Rattle.profile.proofs.summary.Summary.new.Goals as goal
 
+pub push-requires : goal.push-requires
+push-requires g c = omega (arith, c.new-table.ensures.none, as_long _ _ (ap length c.new-table.ensures.same), c.requires.some)
+
 pub invariant_of-result : goal.invariant_of-result
 invariant_of-result g c =
-    let rows = c.clear.new.rows in
-    let h : 0 < length (shapes rows) = omega (arith, long rows, c.requires.some) in
-    let w = subst (λ x. Sound x 1 0 0) (sym c.push.ensures.same) (table_new (shapes rows) h) in
-    record { fits = rw long at w.table.fits; few = omega arith; opened = w.opened; sound = ∣ w ∣₁; indexed = ∣ c.push.ensures.indexed ∣₁ }
+    let rows = c.new-table.result.rows.now in
+    let h : 0 < length (shapes rows) = omega (arith, long rows, as_long _ _ (ap length c.new-table.ensures.same), c.requires.some) in
+    let one : c.push.new.self.count ≡ 1 = omega (arith, c.push.ensures.count, c.new-table.ensures.none) in
+    let s = c.push.ensures.same ∙ ap₂ (set (shapes rows)) c.new-table.ensures.none c.root.ensures in
+    let w = subst (λ x. Sound x 1 0 0) (sym s) (table_new (shapes rows) h) in
+    record { opened = omega (arith, one); sound = ∣ subst (λ n. Sound (shapes c.push.new.self.rows.now) n 0 0) (sym one) w ∣₁ }
 
 pub returns : goal.returns
 returns g c =
     let m = g.M.Metric in
-    let rows = c.clear.new.rows in
-    let after = c.push.new.rows in
-    let h : 0 < length (shapes rows) = omega (arith, long rows, c.requires.some) in
+    let none = m.measure.none in
+    let rows = c.new-table.result.rows.now in
+    let after = c.push.new.self.rows.now in
+    let h : 0 < length (shapes rows) = omega (arith, long rows, as_long _ _ (ap length c.new-table.ensures.same), c.requires.some) in
     let hv : 0 < length (values m.means rows) = omega (arith, long_values m.means rows, h) in
-    let es : get_or (shapes after) 0 blank ≡ blank = ap (λ x. get_or x 0 blank) c.push.ensures.same ∙ get_or-set_same (shapes rows) 0 blank blank h in
-    let ev : get_or (values m.means after) 0 m.measure.none ≡ m.measure.none = ap (λ x. get_or x 0 m.measure.none) c.push.ensures.held ∙ get_or-set_same (values m.means rows) 0 m.measure.none m.measure.none hv in
-    held_path _ _ (reading_new g.met.M.Metric.lawful (shapes after) (values m.means after) es ev) refl (omega arith)
+    let one : c.push.new.self.count ≡ 1 = omega (arith, c.push.ensures.count, c.new-table.ensures.none) in
+    let s = c.push.ensures.same ∙ ap₂ (set (shapes rows)) c.new-table.ensures.none c.root.ensures in
+    let v = c.push.ensures.held ∙ ap (λ k. set (values m.means rows) k none) c.new-table.ensures.none in
+    let es : get_or (shapes after) 0 blank ≡ blank = ap (λ x. get_or x 0 blank) s ∙ get_or-set_same (shapes rows) 0 blank blank h in
+    let ev : get_or (values m.means after) 0 none ≡ none = ap (λ x. get_or x 0 none) v ∙ get_or-set_same (values m.means rows) 0 none none hv in
+    held_path _ _ (ap (λ n. reading m.measure (shapes after) (values m.means after) n 0) one ∙ reading_new g.met.M.Metric.lawful (shapes after) (values m.means after) es ev) one
+    (as_long _ _ (ap length s ∙ length-set (shapes rows) 0 blank) ∙ as_long _ _ (ap length c.new-table.ensures.same))

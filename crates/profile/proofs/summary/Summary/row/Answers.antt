@@ -1,5 +1,6 @@
 use Rattle.std.proofs.Common.{◌<◌, ◌∷◌, get_or, sym, ap, ◌∙◌, arith}
 use Rattle.model.specs.Positions.{at}
+use Rattle.rows.specs.declared.row.Shape.{Shape}
 use Rattle.rows.specs.Shapes.{shapes, blank}
 use Rattle.rows.specs.Cells.{values}
 use Rattle.rows.specs.Reading.{context}
@@ -13,20 +14,21 @@ pub returns : goal.returns
 returns g c =
     let m = g.M.Metric in
     let a = c.args.self.now in
-    let s = shapes a.rows.now in
-    let v = values m.means a.rows.now in
-    let n = a.count in
+    let s = shapes a.table.rows.now in
+    let v = values m.means a.table.rows.now in
+    let n = a.table.count in
     let k = c.args.number in
     let t = (whole a.sound).table in
     let h : k < n = omega arith in
-    let q = c.look-seen.ensures.saw in
+    let fn = ap (λ (x : Shape). x.function) c.look-shape.ensures in
+    let pa = c.from-2.ensures ∙ ap (λ (x : Shape). x.parent) c.look-shape.ensures in
     record {
       within = h;
       there = any_at m.measure.none s v n k h;
-      level = q.level;
-      root = λ e. let r = root_row s n a.level t k h e in (q.function ∙ r.0, q.parent ∙ r.1);
+      level = c.from.ensures ∙ ap (λ (x : Shape). x.level) c.look-shape.ensures;
+      root = λ e. let r = root_row s n a.level t k h e in (fn ∙ r.0, pa ∙ r.1);
       child = λ f.
           let r = child_row s n a.level t k h (named_row s n a.level t k h f) in
-          (omega (arith, q.parent, r.0), r.1 ∙ sym (ap (λ p. at (context s p).level ((get_or s k blank).function ∷ (context s p).path)) q.parent) ∙ sym (ap (λ f. at (context s c.look-seen.result.parent).level (f ∷ (context s c.look-seen.result.parent).path)) q.function));
+          (omega (arith, pa, r.0), r.1 ∙ sym (ap (λ p. at (context s p).level ((get_or s k blank).function ∷ (context s p).path)) pa) ∙ sym (ap (λ f. at (context s c.from-2.result).level (f ∷ (context s c.from-2.result).path)) fn));
       value = c.value_of-value.ensures ∙ sym (joins_own g.met.M.Metric.lawful s v n a.level t k n h (omega arith));
     }

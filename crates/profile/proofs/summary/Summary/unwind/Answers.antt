@@ -1,4 +1,5 @@
 use Rattle.std.proofs.Common.{◌≡◌, ◌+◌, ◌-◌, ◌≤◌, length, sym, refl, ap, ◌∙◌, arith}
+use Rattle.rows.specs.declared.row.Shape.{Shape}
 use Rattle.rows.specs.Shapes.{shapes}
 use Rattle.rows.specs.Reading.{context}
 use Rattle.rows.specs.Cells.{values}
@@ -11,47 +12,47 @@ use Rattle.rows.proofs.Readings.{depth_is}
 use Rattle.rows.proofs.Bridge.{unwound_none}
 use Rattle.profile.proofs.Giving.{ranged_from, taken, path_low, along, unwound_long}
 use Rattle.profile.proofs.summary.Summary.unwind.Goals as goal
-use Rattle.profile.proofs.summary.Summary.unwind.Goals.{else-count-deep-via-then-count-deep+else-count-deep-2, else-count-deep-via-else-count-deep}
+use Rattle.profile.proofs.summary.Summary.unwind.Goals.{else-count-deep-via-then-count-deep+else-from-room, else-count-deep-via-else-count-deep}
 
-pub returns-then-count-deep-2 : goal.returns-then-count-deep-2
-returns-then-count-deep-2 g c =
+pub returns-then-from-room : goal.returns-then-from-room
+returns-then-from-room g c =
     let m = g.M.Metric in
     let a = c.args.self.now in
-    let rows = a.rows.now in
-    let d = sym c.at_open-deep.ensures.depth in
+    let rows = a.table.rows.now in
+    let d = sym (ap (λ (x : Shape). x.depth) c.at_open-deep.ensures) in
     let p = depth_is (shapes rows) a.current in
-    let low = path_low g.met.M.Metric.lawful (shapes rows) (values m.means rows) a.count a.level a.current (whole a.sound) (long_values m.means rows) in
+    let low = path_low g.met.M.Metric.lawful (shapes rows) (values m.means rows) a.table.count a.level a.current (whole a.sound) (long_values m.means rows) in
     (refl, (ranged_from 1 4095 c.args.count (omega arith) (omega arith), omega (arith, unwound_long c.args.count (context (shapes rows) a.current)), omega arith))
 
-pub loop-i-init : goal.loop-i-init
-loop-i-init g c =
+pub loop-init : goal.loop-init
+loop-init g c =
     let m = g.M.Metric in
     let a = c.args.self.now in
-    let rows = a.rows.now in
-    record { is = unwound_none g.met.M.Metric.lawful (shapes rows) (values m.means rows) a.count a.level a.current (whole a.sound); count = omega arith; room = refl }
+    let rows = a.table.rows.now in
+    record { is = unwound_none g.met.M.Metric.lawful (shapes rows) (values m.means rows) a.table.count a.level a.current (whole a.sound); count = omega arith; room = refl }
 
-pub loop-i-preserved : goal.loop-i-preserved
-loop-i-preserved g c =
+pub loop-preserved : goal.loop-preserved
+loop-preserved g c =
     let m = g.M.Metric in
     let a = c.args.self.now in
-    let rows = a.rows.now in
-    let d = sym c.at_open-deep.ensures.depth in
+    let rows = a.table.rows.now in
+    let d = sym (ap (λ (x : Shape). x.depth) c.at_open-deep.ensures) in
     let p = depth_is (shapes rows) a.current in
-    let low = path_low g.met.M.Metric.lawful (shapes rows) (values m.means rows) a.count a.level a.current (whole a.sound) (long_values m.means rows) in
-    let fits : a.count + (c.args.count - length (context (shapes rows) a.current).path) ≤ length rows = elim c.else-count-deep.branch [ else-count-deep-via-then-count-deep+else-count-deep-2 w ↦ omega (arith, w.if-count-deep-2.false) | else-count-deep-via-else-count-deep w ↦ omega (arith, w.if-count-deep.false) ] in
-    along m.measure (view m.measure m.means a) c.args.count low fits c.loop-i.i (view m.measure m.means c.loop-i.self) (view m.measure m.means c.return_.new.self) c.return_.result (omega arith) c.loop-i.invariant c.return_.ensures
+    let low = path_low g.met.M.Metric.lawful (shapes rows) (values m.means rows) a.table.count a.level a.current (whole a.sound) (long_values m.means rows) in
+    let fits : a.table.count + (c.args.count - length (context (shapes rows) a.current).path) ≤ length rows = elim c.else-count-deep.branch [ else-count-deep-via-then-count-deep+else-from-room w ↦ omega (arith, w.if-from-room.false, w.from.ensures, c.room.ensures, c.count.ensures) | else-count-deep-via-else-count-deep w ↦ omega (arith, w.if-count-deep.false) ] in
+    along m.measure (view m.measure m.means a) c.args.count low fits c.loop.counter (view m.measure m.means c.loop.self) (view m.measure m.means c.return_.new.self) c.return_.result (omega arith) c.loop.invariant c.return_.ensures
 
 pub returns : goal.returns
 returns g c =
     let m = g.M.Metric in
     let a = c.args.self.now in
-    let rows = a.rows.now in
-    let d = sym c.at_open-deep.ensures.depth in
+    let rows = a.table.rows.now in
+    let d = sym (ap (λ (x : Shape). x.depth) c.at_open-deep.ensures) in
     let p = depth_is (shapes rows) a.current in
-    let low = path_low g.met.M.Metric.lawful (shapes rows) (values m.means rows) a.count a.level a.current (whole a.sound) (long_values m.means rows) in
-    let fits : a.count + (c.args.count - length (context (shapes rows) a.current).path) ≤ length rows = elim c.else-count-deep.branch [ else-count-deep-via-then-count-deep+else-count-deep-2 w ↦ omega (arith, w.if-count-deep-2.false) | else-count-deep-via-else-count-deep w ↦ omega (arith, w.if-count-deep.false) ] in
-    let e : c.loop-i.i ≡ c.args.count = omega arith in
-    let w = c.loop-i.invariant in
+    let low = path_low g.met.M.Metric.lawful (shapes rows) (values m.means rows) a.table.count a.level a.current (whole a.sound) (long_values m.means rows) in
+    let fits : a.table.count + (c.args.count - length (context (shapes rows) a.current).path) ≤ length rows = elim c.else-count-deep.branch [ else-count-deep-via-then-count-deep+else-from-room w ↦ omega (arith, w.if-from-room.false, w.from.ensures, c.room.ensures, c.count.ensures) | else-count-deep-via-else-count-deep w ↦ omega (arith, w.if-count-deep.false) ] in
+    let e : c.loop.counter ≡ c.args.count = omega arith in
+    let w = c.loop.invariant in
     taken {m = m.measure} _ _ _ (record {
       ranged = ranged_from 1 4095 c.args.count (omega arith) (omega arith);
       shallow = omega (arith, unwound_long c.args.count (context (shapes rows) a.current));

@@ -1,5 +1,6 @@
 use Rattle.std.proofs.Common.{◌<◌, ◌∷◌, get_or, sym, ap, ◌∙◌, arith}
 use Rattle.model.specs.Positions.{Position}
+use Rattle.rows.specs.declared.row.Shape.{Shape}
 use Rattle.rows.specs.Shapes.{shapes, blank}
 use Rattle.rows.specs.Cells.{values}
 use Rattle.rows.specs.Reading.{context}
@@ -11,18 +12,19 @@ pub returns : goal.returns
 returns g c =
     let m = g.M.Metric in
     let a = c.args.self.now in
-    let s = shapes a.rows.now in
-    let v = values m.means a.rows.now in
-    let n = a.count in
+    let s = shapes a.table.rows.now in
+    let v = values m.means a.table.rows.now in
+    let n = a.table.count in
     let k = c.args.number in
     let t = whole_table a.sound in
     let h : k < n = omega arith in
-    let q = c.look-seen.ensures.saw in
+    let fn = ap (λ (x : Shape). x.function) c.look-shape.ensures in
+    let pa = c.from.ensures ∙ ap (λ (x : Shape). x.parent) c.look-shape.ensures in
     record {
       within = h;
-      root = λ e. let r = root_row s n 0 t k h e in (only_root s n t k h r.0, q.function ∙ r.0, q.parent ∙ r.1);
+      root = λ e. let r = root_row s n 0 t k h e in (only_root s n t k h r.0, fn ∙ r.0, pa ∙ r.1);
       child = λ f.
           let r = child_row s n 0 t k h (named_row s n 0 t k h f) in
-          (omega (arith, q.parent, r.0), ap (λ (x : Position). x.path) r.1 ∙ sym (ap (λ p. (get_or s k blank).function ∷ (context s p).path) q.parent) ∙ sym (ap (λ f. f ∷ (context s c.look-seen.result.parent).path) q.function));
+          (omega (arith, pa, r.0), ap (λ (x : Position). x.path) r.1 ∙ sym (ap (λ p. (get_or s k blank).function ∷ (context s p).path) pa) ∙ sym (ap (λ f. f ∷ (context s c.from.result).path) fn));
       value = c.value_of-value.ensures ∙ sym (path_value s n t g.met.M.Metric.lawful v k h);
     }

@@ -1,0 +1,48 @@
+// What a table answers.
+ghost use Rattle.std.specs.Prelude.{◌≡◌, ◌<◌, length, slice_index, slice_index_or};
+ghost use Rattle.rows.specs.Shapes.{shapes, blank};
+ghost use Rattle.rows.specs.Cells.{values, marks};
+
+use super::Table;
+use crate::row::Shape;
+use metrics::metric::Metric;
+
+impl<'a, M: Metric> Table<'a, M> {
+    // How many rows are in use.
+    pub fn count(&self) -> usize
+        ensures { result ≡ self.now.count }
+    {
+        self.count
+    }
+
+    // How many rows there is room for.
+    pub fn room(&self) -> usize
+        ensures { result ≡ length self.now.rows.now }
+    {
+        self.rows.len()
+    }
+
+    // The shape of the row i.
+    pub fn look(&self, i: usize) -> Shape
+        requires { i < length self.now.rows.now }
+        ensures { result ≡ slice_index_or (shapes self.now.rows.now) i blank }
+    {
+        self.rows[i].shape
+    }
+
+    // The value of the row at `at`.
+    pub fn value_of(&self, at: usize) -> M
+        requires { at < length self.now.rows.now }
+        ensures { M.means result ≡ slice_index_or (values M.means self.now.rows.now) at M.measure.none }
+    {
+        self.rows[at].value
+    }
+
+    // Where the row i went.
+    pub fn mark_of(&self, i: usize) -> usize
+        requires { i < length self.now.rows.now }
+        ensures { result ≡ slice_index (marks self.now.rows.now) i }
+    {
+        usize::from(self.rows[i].mark)
+    }
+}
