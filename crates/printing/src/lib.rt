@@ -58,7 +58,7 @@ impl From<AllocError> for PrintError {
 
 // The tree's shape in a column of its own.
 fn shape_of(heap: Global, tree: &Tree<'_, Cost>) -> Result<Vec<ShapeRow>, AllocError>
-    ensures { IfOk result (λ v. IsShape v.items × (vec_len v ≡ tree.now.count)) }
+    ensures { IfOk result (λ v. IsShape v.items × (vec_len v ≡ tree.now.table.count)) }
 {
     let mut shape = vec![in heap; ShapeRow {
         function: 0,
@@ -72,7 +72,7 @@ fn shape_of(heap: Global, tree: &Tree<'_, Cost>) -> Result<Vec<ShapeRow>, AllocE
 
 // The tree's rows in outline order.
 fn order_of(heap: Global, tree: &Tree<'_, Cost>) -> Result<Vec<Line>, AllocError>
-    ensures { IfOk result (λ v. (vec_len v ≡ tree.now.count) × AllByRecursion (λ line. line.row < tree.now.count) v.items) }
+    ensures { IfOk result (λ v. (vec_len v ≡ tree.now.table.count) × AllByRecursion (λ line. line.row < tree.now.table.count) v.items) }
 {
     let shape = shape_of(heap, tree)?;
     let mut order = vec![in heap; Line { row: 0, depth: 0 }; shape.len()]?;
@@ -85,7 +85,7 @@ fn order_of(heap: Global, tree: &Tree<'_, Cost>) -> Result<Vec<Line>, AllocError
 
 // Each row's inclusive cost.
 fn inclusive_of(heap: Global, tree: &Tree<'_, Cost>) -> Result<Vec<Cost>, AllocError>
-    ensures { IfOk result (λ v. vec_len v ≡ tree.now.count) }
+    ensures { IfOk result (λ v. vec_len v ≡ tree.now.table.count) }
 {
     let mut inclusive = vec![in heap; Cost::unit(); tree.row_count()]?;
     match tree.inclusive(inclusive.as_mut_slice()) {
@@ -110,7 +110,7 @@ fn page_line(depth: u16, row: TreeRow<Cost>, inclusive: Cost) -> PageLine
 
 // The lines of the tree's rows, in outline order.
 fn lines_of(heap: Global, tree: &Tree<'_, Cost>) -> Result<Vec<PageLine>, AllocError>
-    ensures { IfOk result (λ v. vec_len v ≡ tree.now.count) }
+    ensures { IfOk result (λ v. vec_len v ≡ tree.now.table.count) }
 {
     let order = order_of(heap, tree)?;
     let inclusive = inclusive_of(heap, tree)?;
@@ -161,7 +161,7 @@ fn read_through(heap: Global, read: ReadIn) -> Result<(), PrintError>
         Stop::Rejected(rejection) => Err(stopped(
             heap,
             StopLine {
-                cause: rejection.number(),
+                cause: u8::from(rejection),
                 place: read.added,
                 passed: 0,
             },

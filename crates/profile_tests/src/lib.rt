@@ -37,7 +37,7 @@ mod tests {
         assert!(rt; summary.row(1).is_none());
         let row = summary.row(0).ok_or("no row 0")?;
         assert!(rt; row.level == 0 && row.function == 0 && row.parent == 0);
-        assert!(rt; row.value.count == 0);
+        assert!(rt; row.value.total == 0);
         Ok(())
     }
 
@@ -66,7 +66,7 @@ mod tests {
         assert!(rt; summary.unwind(2).is_ok());
         assert_eq!(rt; summary.return_(), Err(Rejection::TooFewRows));
         let row = summary.row(2).ok_or("no row 2")?;
-        assert!(rt; row.function == 2 && row.parent == 1 && row.value.count == 2);
+        assert!(rt; row.function == 2 && row.parent == 1 && row.value.total == 2);
         Ok(())
     }
 
@@ -255,14 +255,14 @@ mod tests {
         assert!(rt; tree.strays() == 1 && tree.open() == 2 && tree.row_count() == 3);
         assert!(rt; tree.row(3).is_none());
         let one = tree.row(1).ok_or("no row 1")?;
-        assert!(rt; one.function == 1 && one.parent == 0 && one.value.weight == 12);
-        let mut short = [Work { weight: 9 }; 2];
+        assert!(rt; one.function == 1 && one.parent == 0 && one.value.total == 12);
+        let mut short = [Work::new(9); 2];
         assert!(rt; tree.inclusive(&mut short).is_err());
-        assert!(rt; short[0].weight == 9 && short[1].weight == 9);
-        let mut all = [Work { weight: 9 }; 4];
+        assert!(rt; short[0].total == 9 && short[1].total == 9);
+        let mut all = [Work::new(9); 4];
         assert!(rt; tree.inclusive(&mut all).is_ok());
         assert!(rt;
-            all[0].weight == 13 && all[1].weight == 13 && all[2].weight == 1 && all[3].weight == 9
+            all[0].total == 13 && all[1].total == 13 && all[2].total == 1 && all[3].total == 9
         );
         let mut shape = [ShapeRow {
             function: 9,
