@@ -1,5 +1,5 @@
 -- No two rows share parent and function where no two neighbours of the order do, and the other way round.
-use Rattle.std.proofs.Common.{◌≡◌, ℕ, zero, suc, ◌+◌, ◌-◌, ◌<◌, ◌≤◌, ◌⊎◌, List, length, sym, ap, ◌∙◌, subst, inl, inr, arith}
+use Rattle.std.proofs.Common.{◌≡◌, ℕ, zero, suc, ◌+◌, ◌-◌, ◌<◌, ◌⊎◌, List, length, sym, ap, ◌∙◌, subst, inl, inr, arith}
 use Rattle.std.proofs.lemmas.Bool.{cases_order, cases_lt, cases_eq}
 use Rattle.rows.specs.declared.shape.ShapeRow.{ShapeRow}
 use Rattle.report.specs.declared.order.Entry.{Entry}
@@ -11,22 +11,13 @@ abbrev pub Before : Entry → Entry → Type 0
 Before x y = (x.parent < y.parent) ⊎ ((x.parent ≡ y.parent) × (x.function < y.function))
 
 before_trans : (x y z : Entry) → Before x y → Before y z → Before x z
-before_trans x y z (inl h) (inl g) = inl (omega arith)
-before_trans x y z (inl h) (inr g) = inl (omega (arith, g.0))
-before_trans x y z (inr h) (inl g) = inl (omega (arith, h.0))
-before_trans x y z (inr h) (inr g) = inr (h.0 ∙ g.0, omega (arith, h.1, g.1))
+before_trans x y z h g = grind arith
 
 not_alike : (x y : Entry) → Before x y → Alike x y → ⊥
-not_alike x y (inl h) a = omega (arith, a.0)
-not_alike x y (inr h) a = omega (arith, h.1, a.1)
+not_alike x y h a = grind arith
 
 strict : (x y : Entry) → Upto x y → (Alike x y → ⊥) → Before x y
-strict x y (inl h) n = inl h
-strict x y (inr h) n = by_function (cases_lt x.function y.function)
-  where
-    by_function : (x.function < y.function) ⊎ (y.function ≤ x.function) → Before x y
-    by_function (inl l) = inr (h.0, l)
-    by_function (inr l) = absurd (n (h.0, omega (arith, h.1)))
+strict x y h n = grind (arith, cases_lt x.function y.function)
 
 neighbours : (s : List ShapeRow) (order : List Entry) → Arranged s order → (Twins order → ⊥) → (k : ℕ) → k + 1 < length order → Before (entry_at order k) (entry_at order (k + 1))
 neighbours s order a n k h = strict (entry_at order k) (entry_at order (k + 1)) (a.rises k h) (λ e. n (k, h, e))

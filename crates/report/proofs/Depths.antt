@@ -1,18 +1,15 @@
 -- The depth of a row from that of its parent.
-use Rattle.std.proofs.Common.{All, ◌≡◌, ℕ, zero, suc, ◌+◌, ◌-◌, ◌<◌, ◌≤◌, eqb, List, length, get_or, take, drop, sym, refl, ap, ◌∙◌, add-one, arith}
+use Rattle.std.proofs.Common.{All, ◌≡◌, ℕ, zero, suc, ◌+◌, ◌-◌, ◌<◌, ◌≤◌, List, length, get_or, take, drop, sym, refl, ap, ◌∙◌, arith}
 use Rattle.std.proofs.lemmas.List.{get_or_default, get_or_read_under, get_or-take, get_or-drop}
-use Rattle.std.proofs.lemmas.Bool.{cond-false, cond_both, ne_eqb}
+use Rattle.std.proofs.lemmas.Bool.Decides.{nat_tests}
 use Rattle.report.specs.declared.tree.Node.{Node}
 use Rattle.report.specs.Node.{no_node, node_at}
 use Rattle.rows.specs.declared.shape.ShapeRow.{ShapeRow}
 use Rattle.rows.specs.ShapeColumn.{no_row, IsRooted, steps_up, depth_of, parent_at}
 
-step_up : (s : List ShapeRow) (m i : ℕ) → 0 < i → steps_up (suc m) s i ≡ suc (steps_up m s (parent_at s i))
-step_up s m i h = cond-false (eqb i 0) 0 (suc (steps_up m s (parent_at s i))) (ne_eqb i 0 (λ e. omega arith))
-
 pub steps_few : (s : List ShapeRow) (m i : ℕ) → steps_up m s i ≤ m
 steps_few s zero i = omega arith
-steps_few s (suc m) i = cond_both (eqb i 0) 0 (suc (steps_up m s (parent_at s i))) (λ n. n ≤ suc m) (λ _. omega arith) (λ _. let h : steps_up m s (parent_at s i) ≤ m = steps_few s m (parent_at s i) in omega arith)
+steps_few s (suc m) i = grind (arith, nat_tests, steps_few s m (parent_at s i))
 
 steps_free : (s : List ShapeRow) → IsRooted s → (m n i : ℕ) → i ≤ m → i ≤ n → i < length s → steps_up m s i ≡ steps_up n s i
 steps_free s t zero zero i h k l = refl
@@ -23,17 +20,15 @@ steps_free s t (suc m) zero (suc i) h k l = absurd (omega arith)
 steps_free s t (suc m) (suc n) zero h k l = refl
 steps_free s t (suc m) (suc n) (suc i) h k l =
     let p : parent_at s (suc i) < suc i = t.above (suc i) (omega arith) l in
-    step_up s m (suc i) (omega arith)
-    ∙ ap suc (steps_free s t m n (parent_at s (suc i)) (omega arith) (omega arith) (omega arith))
-    ∙ sym (step_up s n (suc i) (omega arith))
+    let e = steps_free s t m n (parent_at s (suc i)) (omega arith) (omega arith) (omega arith) in
+    grind (arith, nat_tests)
 
 pub depth_step : (s : List ShapeRow) → IsRooted s → (i : ℕ) → 0 < i → i < length s → depth_of s i ≡ depth_of s (parent_at s i) + 1
 depth_step s t zero h l = absurd (omega arith)
 depth_step s t (suc i) h l =
     let p : parent_at s (suc i) < suc i = t.above (suc i) h l in
-    step_up s i (suc i) h
-    ∙ ap suc (steps_free s t i (parent_at s (suc i)) (parent_at s (suc i)) (omega arith) (omega arith) (omega arith))
-    ∙ sym (add-one (depth_of s (parent_at s (suc i))))
+    let e = steps_free s t i (parent_at s (suc i)) (parent_at s (suc i)) (omega arith) (omega arith) (omega arith) in
+    grind (arith, nat_tests)
 
 pub depth_few : (s : List ShapeRow) (i : ℕ) → depth_of s i ≤ i
 depth_few s i = steps_few s i i

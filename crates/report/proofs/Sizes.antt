@@ -2,7 +2,8 @@
 use Rattle.std.proofs.Common.{◌≡◌, ℕ, zero, suc, ◌+◌, ◌<◌, ◌≤◌, Bool, true, false, cond, eqb, ◌⊎◌, List, [], ◌∷◌, length, get_or, drop, sym, refl, ap, ◌∙◌, subst, inl, inr, arith}
 use Rattle.std.specs.List.{ContainsAt as Has}
 use Rattle.std.proofs.lemmas.List.{get_or-drop, length-drop}
-use Rattle.std.proofs.lemmas.Bool.{cond-true, cond-false, cond_both, eq-eqb, ne_eqb, eqb-true, cases_eq, cases_Bool}
+use Rattle.std.proofs.lemmas.Bool.{cond-true, cond-false, eqb-true, cases_eq, cases_Bool}
+use Rattle.std.proofs.lemmas.Bool.Decides.{nat_tests}
 use Rattle.rows.specs.declared.shape.ShapeRow.{ShapeRow}
 use Rattle.report.specs.declared.order.Entry.{Entry}
 use Rattle.rows.specs.ShapeColumn.{IsRooted, parent_at}
@@ -17,26 +18,20 @@ up s t zero h = omega (arith, t.root_parent)
 up s t (suc j) h = let p : parent_at s (suc j) < suc j = t.above (suc j) (omega arith) h in omega arith
 
 under_here : (s : List ShapeRow) (m r : ℕ) → under_by m s r r ≡ 1
-under_here s zero r = cond-true (eqb r r) 1 0 (eq-eqb r r refl)
-under_here s (suc m) r = cond-true (eqb r r) 1 (under_by m s r (parent_at s r)) (eq-eqb r r refl)
+under_here s zero r = grind (arith, nat_tests)
+under_here s (suc m) r = grind (arith, nat_tests)
 
 under_few : (s : List ShapeRow) (m r j : ℕ) → under_by m s r j ≤ 1
-under_few s zero r j = cond_both (eqb j r) 1 0 (λ n. n ≤ 1) (λ _. omega arith) (λ _. omega arith)
-under_few s (suc m) r j = cond_both (eqb j r) 1 (under_by m s r (parent_at s j)) (λ n. n ≤ 1) (λ _. omega arith) (λ _. under_few s m r (parent_at s j))
+under_few s zero r j = grind (arith, nat_tests)
+under_few s (suc m) r j = grind (arith, nat_tests, under_few s m r (parent_at s j))
 
 under_above : (s : List ShapeRow) → IsRooted s → (m r j : ℕ) → j < length s → j < r → under_by m s r j ≡ 0
-under_above s t zero r j h l = cond-false (eqb j r) 1 0 (ne_eqb j r (λ e. omega arith))
-under_above s t (suc m) r j h l =
-    let p : parent_at s j ≤ j = up s t j h in
-    cond-false (eqb j r) 1 (under_by m s r (parent_at s j)) (ne_eqb j r (λ e. omega arith)) ∙ under_above s t m r (parent_at s j) (omega arith) (omega arith)
+under_above s t zero r j h l = grind (arith, nat_tests)
+under_above s t (suc m) r j h l = let p = up s t j h in grind (arith, nat_tests, under_above s t m r (parent_at s j))
 
 under_root : (s : List ShapeRow) → IsRooted s → (m r : ℕ) → under_by m s r 0 ≡ same 0 r
 under_root s t zero r = refl
-under_root s t (suc m) r = by_root (under_root s t m r) (cases_eq 0 r)
-  where
-    by_root : under_by m s r 0 ≡ same 0 r → (0 ≡ r) ⊎ (0 ≡ r → ⊥) → under_by (suc m) s r 0 ≡ same 0 r
-    by_root i (inl e) = cond-true (eqb 0 r) 1 (under_by m s r (parent_at s 0)) (eq-eqb 0 r e) ∙ sym (cond-true (eqb 0 r) 1 0 (eq-eqb 0 r e))
-    by_root i (inr n) = cond-false (eqb 0 r) 1 (under_by m s r (parent_at s 0)) (ne_eqb 0 r n) ∙ ap (under_by m s r) t.root_parent ∙ i
+under_root s t (suc m) r = grind (arith, nat_tests, t.root_parent, under_root s t m r)
 
 under_free : (s : List ShapeRow) → IsRooted s → (m n r j : ℕ) → j ≤ m → j ≤ n → j < length s → under_by m s r j ≡ under_by n s r j
 under_free s t m n r zero h k l = under_root s t m r ∙ sym (under_root s t n r)
@@ -50,17 +45,18 @@ under_free s t (suc m) (suc n) r (suc j) h k l =
 under_step : (s : List ShapeRow) → IsRooted s → (r j : ℕ) → 0 < j → j < length s → (j ≡ r → ⊥) → under s r j ≡ under s r (parent_at s j)
 under_step s t r zero h l n = absurd (omega arith)
 under_step s t r (suc j) h l n =
-    let p : parent_at s (suc j) < suc j = t.above (suc j) h l in
-    cond-false (eqb (suc j) r) 1 (under_by j s r (parent_at s (suc j))) (ne_eqb (suc j) r n)
-    ∙ under_free s t j (parent_at s (suc j)) r (parent_at s (suc j)) (omega arith) (omega arith) (omega arith)
+    let p = t.above (suc j) h l in
+    let e = under_free s t j (parent_at s (suc j)) r (parent_at s (suc j)) (omega arith) (omega arith) (omega arith) in
+    grind (arith, nat_tests)
 
 -- every row stands below row 0
 under_all : (s : List ShapeRow) → IsRooted s → (m j : ℕ) → j ≤ m → j < length s → under_by m s 0 j ≡ 1
 under_all s t m zero b h = under_here s m 0
 under_all s t zero (suc j) b h = absurd (omega arith)
 under_all s t (suc m) (suc j) b h =
-    let p : parent_at s (suc j) < suc j = t.above (suc j) (omega arith) h in
-    cond-false (eqb (suc j) 0) 1 (under_by m s 0 (parent_at s (suc j))) (ne_eqb (suc j) 0 (λ e. omega arith)) ∙ under_all s t m (parent_at s (suc j)) (omega arith) (omega arith)
+    let p = t.above (suc j) (omega arith) h in
+    let u = under_all s t m (parent_at s (suc j)) (omega arith) (omega arith) in
+    grind (arith, nat_tests)
 
 -- ---- one row at or below the children that lead the entries
 
@@ -91,48 +87,26 @@ child_above s t e es r v q =
 hits_above : (s : List ShapeRow) → IsRooted s → (r j : ℕ) (es : List Entry) → Valid s es → j < length s → j ≤ r → hits s r es j ≡ 0
 hits_above s t r j [] v h l = refl
 hits_above s t r j (e ∷ es) v h l =
-    cond_both (eqb (parent_at s e.row) r) (under s e.row j + hits s r es j) 0 (λ n. n ≡ 0)
-    (λ q.
-    let a : r < e.row = child_above s t e es r v q in
-    let u : under s e.row j ≡ 0 = under_above s t j e.row j h (omega arith) in
-    let i : hits s r es j ≡ 0 = hits_above s t r j es (valid_rest s e es v) h l in
-    omega arith)
-    (λ _. refl)
+    grind (arith, nat_tests, child_above s t e es r v, under_above s t j e.row j h, hits_above s t r j es (valid_rest s e es v) h l)
 
 -- a child of r that is none of the entries
 hits_absent : (s : List ShapeRow) → IsRooted s → (r j : ℕ) (es : List Entry) → Valid s es → 0 < j → j < length s → parent_at s j ≡ r → ((k : ℕ) → k < length es → (entry_at es k).row ≡ j → ⊥) → hits s r es j ≡ 0
 hits_absent s t r j [] v g h p n = refl
 hits_absent s t r j (e ∷ es) v g h p n =
-    cond_both (eqb (parent_at s e.row) r) (under s e.row j + hits s r es j) 0 (λ x. x ≡ 0)
-    (λ q.
-    let a : r < e.row = child_above s t e es r v q in
-    let b : parent_at s j < j = t.above j g h in
-    let c : parent_at s j < e.row = omega arith in
-    let d : parent_at s j < length s = omega arith in
-    let u : under s e.row j ≡ 0 = under_step s t e.row j g h (λ z. n 0 (omega arith) (sym z)) ∙ under_above s t (parent_at s j) e.row (parent_at s j) d c in
-    let i : hits s r es j ≡ 0 = hits_absent s t r j es (valid_rest s e es v) g h p (λ k l. n (suc k) (omega arith)) in
-    omega arith)
-    (λ _. refl)
+    let b = t.above j g h in
+    let other : j ≡ e.row → ⊥ = λ z. n 0 (omega arith) (sym z) in
+    let rest = hits_absent s t r j es (valid_rest s e es v) g h p (λ k l. n (suc k) (omega arith)) in
+    grind (arith, nat_tests, child_above s t e es r v, under_step s t e.row j g h other, under_above s t (parent_at s j) e.row (parent_at s j))
 
 -- a child of r is one of the entries at most
 hits_child : (s : List ShapeRow) → IsRooted s → (r j : ℕ) (es : List Entry) → Valid s es → Once es → 0 < j → j < length s → parent_at s j ≡ r → hits s r es j ≤ 1
 hits_child s t r j [] v o g h p = omega arith
 hits_child s t r j (e ∷ es) v o g h p =
-    cond_both (eqb (parent_at s e.row) r) (under s e.row j + hits s r es j) 0 (λ x. x ≤ 1)
-    (λ q. by_row (hits_child s t r j es (valid_rest s e es v) (once_rest e es o) g h p) (child_above s t e es r v q) (cases_eq j e.row))
-    (λ _. omega arith)
-  where
-    by_row : hits s r es j ≤ 1 → r < e.row → (j ≡ e.row) ⊎ (j ≡ e.row → ⊥) → under s e.row j + hits s r es j ≤ 1
-    by_row i a (inl z) =
-        let u : under s e.row j ≤ 1 = under_few s j e.row j in
-        let k : hits s r es j ≡ 0 = hits_absent s t r j es (valid_rest s e es v) g h p (λ k l y. let x : suc k ≡ 0 = o (suc k) 0 (omega arith) (omega arith) (y ∙ z) in omega arith) in
-        omega arith
-    by_row i a (inr n) =
-        let b : parent_at s j < j = t.above j g h in
-        let c : parent_at s j < e.row = omega arith in
-        let d : parent_at s j < length s = omega arith in
-        let u : under s e.row j ≡ 0 = under_step s t e.row j g h n ∙ under_above s t (parent_at s j) e.row (parent_at s j) d c in
-        omega arith
+    let b = t.above j g h in
+    let few = under_few s j e.row j in
+    let rest = hits_child s t r j es (valid_rest s e es v) (once_rest e es o) g h p in
+    let absent : j ≡ e.row → hits s r es j ≡ 0 = λ z. hits_absent s t r j es (valid_rest s e es v) g h p (λ k l y. let x : suc k ≡ 0 = o (suc k) 0 (omega arith) (omega arith) (y ∙ z) in omega arith) in
+    grind (arith, nat_tests, child_above s t e es r v, under_step s t e.row j g h, under_above s t (parent_at s j) e.row (parent_at s j), cases_eq j e.row)
 
 -- and where it is one, that counts
 hits_has : (s : List ShapeRow) (r j : ℕ) (es : List Entry) → Has (led_by s r es) j → 1 ≤ hits s r es j
@@ -154,22 +128,16 @@ hits_has s r j (e ∷ es) h = by_test (λ g. hits_has s r j es g) (cases_Bool (e
 -- another row is below the children of r where its parent is
 hits_step : (s : List ShapeRow) → IsRooted s → (r j : ℕ) (es : List Entry) → 0 < j → j < length s → (parent_at s j ≡ r → ⊥) → hits s r es j ≡ hits s r es (parent_at s j)
 hits_step s t r j [] g h n = refl
-hits_step s t r j (e ∷ es) g h n = by_test (hits_step s t r j es g h n) (cases_Bool (eqb (parent_at s e.row) r))
-  where
-    by_test : hits s r es j ≡ hits s r es (parent_at s j) → (eqb (parent_at s e.row) r ≡ true) ⊎ (eqb (parent_at s e.row) r ≡ false) → hits s r (e ∷ es) j ≡ hits s r (e ∷ es) (parent_at s j)
-    by_test i (inr q) = cond-false (eqb (parent_at s e.row) r) (under s e.row j + hits s r es j) 0 q ∙ sym (cond-false (eqb (parent_at s e.row) r) (under s e.row (parent_at s j) + hits s r es (parent_at s j)) 0 q)
-    by_test i (inl q) =
-        let d : j ≡ e.row → ⊥ = λ z. n (ap (parent_at s) z ∙ eqb-true (parent_at s e.row) r q) in
-        let u : under s e.row j ≡ under s e.row (parent_at s j) = under_step s t e.row j g h d in
-        cond-true (eqb (parent_at s e.row) r) (under s e.row j + hits s r es j) 0 q
-        ∙ ap (λ x. x + hits s r es j) u ∙ ap (λ x. under s e.row (parent_at s j) + x) i
-        ∙ sym (cond-true (eqb (parent_at s e.row) r) (under s e.row (parent_at s j) + hits s r es (parent_at s j)) 0 q)
+hits_step s t r j (e ∷ es) g h n =
+    let rest = hits_step s t r j es g h n in
+    let other : parent_at s e.row ≡ r → j ≡ e.row → ⊥ = λ q z. n (ap (parent_at s) z ∙ q) in
+    grind (arith, nat_tests, under_step s t e.row j g h)
 
 same_no : (j r : ℕ) → (j ≡ r → ⊥) → same j r ≡ 0
-same_no j r n = cond-false (eqb j r) 1 0 (ne_eqb j r n)
+same_no j r n = grind (arith, nat_tests)
 
 same_yes : (j r : ℕ) → j ≡ r → same j r ≡ 1
-same_yes j r e = cond-true (eqb j r) 1 0 (eq-eqb j r e)
+same_yes j r e = grind (arith, nat_tests)
 
 -- all children of r are among those that lead the entries
 abbrev Full : List ShapeRow → ℕ → List Entry → Type 0
@@ -248,24 +216,11 @@ count_ones (suc n) = let i : count (λ _. 1) n ≡ n = count_ones n in omega ari
 
 count_past : (r n : ℕ) → n ≤ r → count (λ j. same j r) n ≡ 0
 count_past r zero h = refl
-count_past r (suc n) h =
-    let a : same n r ≡ 0 = same_no n r (λ e. omega arith) in
-    let b : count (λ j. same j r) n ≡ 0 = count_past r n (omega arith) in
-    omega arith
+count_past r (suc n) h = grind (arith, nat_tests, count_past r n (omega arith))
 
 count_same : (r n : ℕ) → r < n → count (λ j. same j r) n ≡ 1
 count_same r zero h = absurd (omega arith)
-count_same r (suc n) h = by_last (λ l. count_same r n l) (cases_eq n r)
-  where
-    by_last : (r < n → count (λ j. same j r) n ≡ 1) → (n ≡ r) ⊎ (n ≡ r → ⊥) → count (λ j. same j r) (suc n) ≡ 1
-    by_last i (inl e) =
-        let a : same n r ≡ 1 = same_yes n r e in
-        let b : count (λ j. same j r) n ≡ 0 = count_past r n (omega arith) in
-        omega arith
-    by_last i (inr d) =
-        let a : same n r ≡ 0 = same_no n r d in
-        let b : count (λ j. same j r) n ≡ 1 = i (omega arith) in
-        omega arith
+count_same r (suc n) h = grind (arith, nat_tests, count_same r n, count_past r n)
 
 sizes_count : (s : List ShapeRow) (r : ℕ) (es : List Entry) → sizes_of s (led_by s r es) ≡ count (λ j. hits s r es j) (length s)
 sizes_count s r [] = sym (count_none (length s))

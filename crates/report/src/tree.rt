@@ -27,6 +27,7 @@ pub(crate) struct Tree {
 }
 
 // The tree of a shape, or a refusal.
+#[tactic(auto, using(crate::proofs::Apart::twins_fault, crate::proofs::Depths::nodes_shallow))]
 pub(crate) fn tree_of(heap: Global, shape: &[ShapeRow]) -> Result<Tree, OutlineError>
     ensures { MatchResult result (λ t. IsShape shape.now × TreeOf shape.now t) (λ e. Unmade shape.now e) }
 {

@@ -147,9 +147,8 @@ fn small_tree_in_outline_order(rt: HostRuntime) {
     let lines = [(0, 0), (2, 1), (5, 2), (1, 1), (4, 2), (3, 2)];
     let mut column = [OLD; 8];
     assert_eq!(rt; outline(rt.alloc(), &shape, &mut column), Ok(()));
-    for (i, (row, depth)) in lines.into_iter().enumerate() {
-        assert!(rt; i < column.len());
-        assert_eq!(rt; column[i], Line { row, depth });
+    for (line, (row, depth)) in column.iter().zip(lines) {
+        assert_eq!(rt; *line, Line { row, depth });
     }
     assert_eq!(rt; column[6], OLD);
     assert_eq!(rt; column[7], OLD);

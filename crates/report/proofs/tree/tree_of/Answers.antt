@@ -3,19 +3,9 @@ use Rattle.std.proofs.Math.Seq.{take-append_seam}
 use Rattle.std.proofs.lemmas.Bool.{false≢true}
 use Rattle.report.specs.Order.{Begins, Twins}
 use Rattle.report.specs.Node.{node_at}
-use Rattle.report.proofs.Apart.{rows_apart, twins_fault}
-use Rattle.report.proofs.Depths.{nodes_shallow, rows_shallow}
+use Rattle.report.proofs.Apart.{rows_apart}
+use Rattle.report.proofs.Depths.{rows_shallow}
 use Rattle.report.proofs.tree.tree_of.Goals as goal
-
-pub returns-then-not-is_shallow : goal.returns-then-not-is_shallow
-returns-then-not-is_shallow c shape =
-    let nodes = vec_items c.in_ok-nodes.nodes in
-    let long : length nodes ≡ length c.args.shape.now = omega (arith, c.in_ok-nodes.ensures.long, c.in_ok-nodes.nodes.ok.0) in
-    false≢true (c.if-not-is_shallow.ensures.1 (subst (All (λ node. node.depth ≤ 512)) (sym c.deref.ensures.value) (nodes_shallow c.args.shape.now nodes long c.in_ok-nodes.ensures.depths shape.shallow)))
-
-pub returns-then-has_twins : goal.returns-then-has_twins
-returns-then-has_twins c =
-    twins_fault c.args.shape.now (vec_items c.in_ok-order.order) c.in_ok-order.ensures (subst Twins c.deref-2.ensures.value (c.if-has_twins.ensures.0 refl))
 
 pub returns : goal.returns
 returns c =
