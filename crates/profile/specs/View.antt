@@ -1,14 +1,15 @@
 -- What a summary in its table means, and what its answers say of it. Assumes nothing.
-use Rattle.std.specs.Prelude.{◌≡◌, ℕ, ◌<◌, ◌≤◌, true, [], ◌∷◌, length, Some, None, Option, ◌≢◌}
+use Rattle.std.specs.Prelude.{◌≡◌, ℕ, ◌<◌, ◌≤◌, true, [], ◌∷◌, length, Some, None, Option, Ok, Err, Result, ◌≢◌}
 use Rattle.profile.specs.declared.summary.Summary.{Summary}
 use Rattle.profile.specs.declared.summary.SummaryRow.{SummaryRow}
+use Rattle.rows.specs.declared.rejection.Rejection.{Rejection}
 use Rattle.metrics.specs.Measures.{Measure}
 use Rattle.model.specs.Positions.{Position, at}
 use Rattle.model.specs.Summaries.{summary}
 use Rattle.rows.specs.Shapes.{shapes}
 use Rattle.rows.specs.Cells.{values}
 use Rattle.rows.specs.Reading.{context, reading}
-use Rattle.profile.specs.Given.{Held}
+use Rattle.profile.specs.Given.{Held, tabled}
 
 -- the summary that the rows in use show, their number, and the table's
 abbrev pub view : {M V : Type 0} → Measure V → (M → V) → Summary M → Held V
@@ -17,6 +18,11 @@ view m means s = record { is = reading m (shapes s.table.rows.now) (values means
 -- a new summary is that of the empty list
 abbrev pub fresh : {V : Type 0} → Measure V → ℕ → Held V
 fresh m room = record { is = summary m []; count = 1; room = room }
+
+-- a table of so many rows gives a new summary, or is rejected, by its size
+abbrev pub Begins : {M V : Type 0} → Measure V → (M → V) → ℕ → Result (Summary M) Rejection → Type 0
+Begins m means room (Ok s) = (tabled room ≡ Ok tt) × (view m means s ≡ fresh m room)
+Begins m means room (Err e) = tabled room ≡ Err e
 
 -- the context that the row k stands for
 abbrev pub row_context : {M : Type 0} → Summary M → ℕ → Position

@@ -52,6 +52,18 @@ mod tests {
     }
 
     #[test]
+    fn over_answers_for_the_size(rt: HostRuntime) -> Result<(), Fail> {
+        let mut table = vec![in rt.alloc(); Row::<Calls>::empty(); 65_536]?;
+        assert!(rt; Summary::over(&mut table[0..0]).is_err());
+        assert!(rt; Summary::over(table.as_mut_slice()).is_err());
+        assert!(rt; Summary::over(&mut table[0..65_535]).is_ok());
+        let mut summary = Summary::over(&mut table[0..1]).ok().ok_or("a row is enough")?;
+        assert!(rt; summary.row_count() == 1 && summary.level() == 0);
+        assert_eq!(rt; summary.return_(), Err(Rejection::TooFewRows));
+        Ok(())
+    }
+
+    #[test]
     fn a_full_table_rejects_and_stays(rt: HostRuntime) -> Result<(), Fail> {
         let mut rows = [Row::<Calls>::empty(); 3];
         let mut summary = Summary::new(&mut rows);

@@ -3,7 +3,7 @@ ghost use Rattle.std.specs.Prelude.{◌≡◌, ◌<◌, ◌≤◌, length, slice
 ghost use Rattle.trace.specs.declared.record.Record.TheVariants.{Call, Return, Unwind, Sample as Sampled};
 ghost use Rattle.rows.specs.Shapes.{shapes, blank};
 ghost use Rattle.profile.specs.Given.{Given, tabled};
-ghost use Rattle.profile.specs.View.{view, fresh};
+ghost use Rattle.profile.specs.View.{view, fresh, Begins};
 
 use super::Summary;
 use metrics::metric::Metric;
@@ -36,6 +36,14 @@ impl<'a, M: Metric> Summary<'a, M> {
             level: 0,
             current: 0,
         }
+    }
+
+    // The same, in a table of any size: one that no summary can stand in is rejected.
+    pub fn over(rows: &'a mut [Row<M>]) -> Result<Summary<'a, M>, Rejection>
+        ensures { Begins M.measure M.means (length rows.old) result }
+    {
+        check_table(rows)?;
+        Ok(Summary::new(rows))
     }
 
     // The open path's row, without its value.
