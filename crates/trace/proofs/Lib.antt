@@ -1,6 +1,7 @@
 pub mod Cutting
 pub mod WordSteps
 pub mod NumberSteps
+pub mod Making
 pub mod LineSteps
 pub mod TextSteps
 pub mod Stepping

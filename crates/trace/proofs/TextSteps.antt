@@ -3,9 +3,10 @@ use Rattle.std.proofs.Common.{◌≡◌, ℕ, ◌+◌, ◌<◌, ◌≤◌, List,
 use Rattle.std.proofs.lemmas.List.{drop_all, at_drop_more}
 use Rattle.std.proofs.lemmas.Bool.{cases_lt}
 use Rattle.trace.specs.Faults.{fault_at}
+use Rattle.trace.specs.Meanings.{found_at}
 use Rattle.trace.specs.Pieces.{pieces, first}
 use Rattle.trace.specs.Sources.{Ending, answered, rest}
-use Rattle.trace.specs.Text.{line_record, at_place, record_then, ending_then, line_records, line_ending, text_records, text_ending}
+use Rattle.trace.specs.Text.{line_record, record_then, ending_then, line_records, line_ending, text_records, text_ending}
 use Rattle.trace.specs.declared.fault.Cause.{Cause}
 use Rattle.trace.specs.declared.fault.Fault.{Fault}
 use Rattle.trace.specs.declared.record.Record.{Record}
@@ -73,11 +74,11 @@ at_end xs i rs e h p q =
     rw (p', q') (record { answer = refl; rest = refl; ending = refl })
 
 -- the line is at fault
-pub at_fault : (f : Fault) (i : ℕ) (l : Result Record Cause) (more rs : List Record) (after e : Ending) → Err f ≡ at_place l i → rs ≡ record_then l more → e ≡ ending_then l i after → Stepped rs rs e e (Err f)
-at_fault f i (Ok r) more rs after e h p q = absurd (let z : ◌≡◌ {A = ℕ} 0 1 = cc in omega arith)
+pub at_fault : (f : Fault) (i : ℕ) (l : Result Record Cause) (more rs : List Record) (after e : Ending) → Err f ≡ found_at l i → rs ≡ record_then l more → e ≡ ending_then l i after → Stepped rs rs e e (Err f)
+at_fault f i (Ok r) more rs after e h p q = cc
 at_fault f i (Err c) more rs after e h p q = let k : f ≡ fault_at c i = cc in rw (p, q) (record { answer = ap Err k; rest = refl; ending = refl })
 
 -- the line is a record
-pub at_record : (r : Record) (i : ℕ) (l : Result Record Cause) (more rs : List Record) (after e : Ending) → Ok r ≡ at_place l i → rs ≡ record_then l more → e ≡ ending_then l i after → Stepped rs more e after (Ok (Some r))
+pub at_record : (r : Record) (i : ℕ) (l : Result Record Cause) (more rs : List Record) (after e : Ending) → Ok r ≡ found_at l i → rs ≡ record_then l more → e ≡ ending_then l i after → Stepped rs more e after (Ok (Some r))
 at_record r i (Ok x) more rs after e h p q = let k : r ≡ x = cc in rw (p, q) (record { answer = ap (λ y. Ok (Some y)) k; rest = refl; ending = refl })
-at_record r i (Err c) more rs after e h p q = absurd (let z : ◌≡◌ {A = ℕ} 0 1 = cc in omega arith)
+at_record r i (Err c) more rs after e h p q = cc

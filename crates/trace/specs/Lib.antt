@@ -1,5 +1,8 @@
 pub mod Ranges
 pub mod Faults
+pub mod Kinds
+pub mod Fields
+pub mod FieldsRanged
 pub mod Sources
 pub mod Pieces
 pub mod Words

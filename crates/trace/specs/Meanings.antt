@@ -1,10 +1,10 @@
 -- What an input means as one thing, whatever the format that it is written in. Assumes nothing.
 use Rattle.std.specs.Prelude.{ℕ, List, [], ◌∷◌, Ok, Err, Result}
 use Rattle.trace.specs.Faults.{fault_at}
+use Rattle.trace.specs.Fields.{checked}
+use Rattle.trace.specs.FieldsRanged.{Good, checked_good}
 use Rattle.trace.specs.Ranges.{in_range, InRange}
 use Rattle.trace.specs.Sources.{Ending, Every}
-use Rattle.trace.specs.Text.{checked}
-use Rattle.trace.specs.TextRanged.{Good, checked_good}
 use Rattle.trace.specs.declared.fault.Cause.{Cause}
 use Rattle.trace.specs.declared.fault.Fault.{Fault}
 use Rattle.trace.specs.declared.record.Record.{Record}

@@ -1,18 +1,15 @@
 -- The text format: the record of a line, and the records and the ending of a text. Assumes nothing.
-use Rattle.std.specs.Prelude.{ℕ, zero, suc, ◌+◌, ◌-◌, ◌*◌, Bool, cond, ◌&&◌, List, [], ◌∷◌, length, drop, Ok, Err, codes, Result, nat_le}
-use Rattle.std.specs.Str.{bytes_eq}
+use Rattle.std.specs.Prelude.{ℕ, zero, suc, ◌+◌, ◌-◌, ◌*◌, cond, ◌&&◌, List, [], ◌∷◌, length, drop, Ok, Err, Result, nat_le}
 use Rattle.trace.specs.Faults.{fault_at}
+use Rattle.trace.specs.Fields.{Numbers, listed, field_count, made}
+use Rattle.trace.specs.Kinds.{kind_of_word}
 use Rattle.trace.specs.Pieces.{pieces}
-use Rattle.trace.specs.Ranges.{from_to}
 use Rattle.trace.specs.Sources.{Ending, rest}
 use Rattle.trace.specs.Words.{words, is_digits}
 use Rattle.trace.specs.declared.fault.Cause.{Cause}
-use Rattle.trace.specs.declared.fault.Cause.TheVariants.{CutShort, TooLarge, UnknownKind, OutOfRange, BadField}
-use Rattle.trace.specs.declared.fault.Fault.{Fault}
-use Rattle.trace.specs.declared.line.Kind.{Kind}
-use Rattle.trace.specs.declared.line.Kind.TheVariants.{Call as IsCall, Back, Unwind as IsUnwind, Sample as IsSample}
+use Rattle.trace.specs.declared.fault.Cause.TheVariants.{CutShort, TooLarge, UnknownKind, BadField}
+use Rattle.trace.specs.declared.kind.Kind.{Kind}
 use Rattle.trace.specs.declared.record.Record.{Record}
-use Rattle.trace.specs.declared.record.Record.TheVariants.{Call, Return, Unwind, Sample}
 use Rattle.trace.specs.declared.text.TextSource.{TextSource}
 
 -- where r has a value, what f makes of it; else the cause that r has
@@ -43,44 +40,23 @@ abbrev pub no_word : List (List ℕ) → Result (Unit {0}) Cause
 no_word [] = Ok tt
 no_word (w ∷ ws) = Err BadField
 
--- n numbers
-abbrev pub Numbers : ℕ → Type 0
-Numbers zero = Unit {0}
-Numbers (suc n) = ℕ × Numbers n
-
 -- The words are n fields, from the left, and no more.
 abbrev pub fields : (n : ℕ) → List (List ℕ) → Result (Numbers n) Cause
 fields zero ws = no_word ws
 fields (suc n) ws = and_then (first_field ws) (λ v. and_then (fields n (rest ws)) (λ vs. Ok (v, vs)))
 
--- A record, if its fields are in range. The ranges come last, so that each other cause goes before.
-abbrev pub checked : Bool → Record → Result Record Cause
-checked b r = cond b (Ok r) (Err OutOfRange)
+-- the same as a list
+abbrev pub field_list : ℕ → List (List ℕ) → Result (List ℕ) Cause
+field_list n ws = and_then (fields n ws) (λ v. Ok (listed n v))
 
-abbrev pub call_of : ℕ → Result Record Cause
-call_of function = checked (from_to 1 65535 function) (Call function)
-
-abbrev pub unwind_of : ℕ → Result Record Cause
-unwind_of count = checked (from_to 1 4095 count) (Unwind count)
-
-abbrev pub sample_of : ℕ → ℕ → ℕ → ℕ → Result Record Cause
-sample_of step weight site region = checked (from_to 1 4294967295 weight && (from_to 0 65535 site && from_to 0 63 region)) (Sample (record { step = step; weight = weight; site = site; region = region }))
-
--- what the first word of a line says
-abbrev pub kind_of : List ℕ → Result Kind Cause
-kind_of w = cond (bytes_eq w (codes "call")) (Ok IsCall) (cond (bytes_eq w (codes "back")) (Ok Back) (cond (bytes_eq w (codes "unwind")) (Ok IsUnwind) (cond (bytes_eq w (codes "sample")) (Ok IsSample) (Err UnknownKind))))
-
--- the record of a kind, with the words after the first
+-- The record of a kind, with the words after the first. The ranges come last, so that each other cause goes before.
 abbrev pub record_of : Kind → List (List ℕ) → Result Record Cause
-record_of IsCall ws = and_then (fields 1 ws) (λ v. call_of v.0)
-record_of Back ws = and_then (fields 0 ws) (λ v. Ok Return)
-record_of IsUnwind ws = and_then (fields 1 ws) (λ v. unwind_of v.0)
-record_of IsSample ws = and_then (fields 4 ws) (λ v. sample_of v.0 v.1.0 v.1.1.0 v.1.1.1.0)
+record_of k ws = and_then (fields (field_count k) ws) (made k)
 
 -- the kind that the first word names
 abbrev pub first_kind : List (List ℕ) → Result Kind Cause
 first_kind [] = Err UnknownKind
-first_kind (w ∷ ws) = kind_of w
+first_kind (w ∷ ws) = kind_of_word w
 
 -- The record of a line that is not empty. Its first word is looked at first, and then the others.
 abbrev pub line_record : List ℕ → Result Record Cause
@@ -89,11 +65,6 @@ line_record line = and_then (first_kind (words line)) (λ k. record_of k (rest (
 -- the lines of a text, each of which ends at a line end or with the text
 abbrev pub lines : List ℕ → List (List ℕ)
 lines text = pieces 10 text
-
--- a cause is the fault of the line at place p
-abbrev pub at_place : Result Record Cause → ℕ → Result Record Fault
-at_place (Ok r) p = Ok r
-at_place (Err c) p = Err (fault_at c p)
 
 -- a line's record and those after it; none from a line at fault on
 abbrev pub record_then : Result Record Cause → List Record → List Record

@@ -1,7 +1,9 @@
 // Why a trace cannot be read on, and where.
 ghost use Rattle.std.specs.Prelude.{◌≡◌};
 ghost use Rattle.trace.specs.Faults.{number, fault_at};
-ghost use Rattle.trace.specs.Meanings.{found_at};
+ghost use Rattle.trace.specs.declared.fault.Cause.TheVariants.{OutOfRange};
+
+use std::num::TryFromIntError;
 
 // What is wrong with the trace.
 #[derive(Clone, Copy, PartialEq, Eq, Debug)]
@@ -19,19 +21,6 @@ pub enum Cause {
 }
 
 impl Cause {
-    // The number by which a cause is printed.
-    pub fn number(self) -> u8
-        ensures { result ≡ number self }
-    {
-        match self {
-            Cause::CutShort => 1,
-            Cause::TooLarge => 2,
-            Cause::UnknownKind => 3,
-            Cause::OutOfRange => 4,
-            Cause::BadField => 5,
-        }
-    }
-
     // The fault of this cause where it arises.
     pub fn at(self, place: usize) -> Fault
         ensures { result ≡ fault_at self place }
@@ -41,6 +30,30 @@ impl Cause {
             place,
             passed: 0,
         }
+    }
+}
+
+// The number by which a cause is printed.
+impl From<Cause> for u8 {
+    ghost from_gives = { λ cause n. n ≡ number cause };
+
+    fn from(cause: Cause) -> u8 {
+        match cause {
+            Cause::CutShort => 1,
+            Cause::TooLarge => 2,
+            Cause::UnknownKind => 3,
+            Cause::OutOfRange => 4,
+            Cause::BadField => 5,
+        }
+    }
+}
+
+// A field that its type does not hold is outside its range.
+impl From<TryFromIntError> for Cause {
+    ghost from_gives = { λ _ cause. cause ≡ OutOfRange };
+
+    fn from(_error: TryFromIntError) -> Cause {
+        Cause::OutOfRange
     }
 }
 
@@ -56,13 +69,3 @@ pub struct Fault {
 
 // What comes after the last record of a source: the end, or the fault.
 pub type Ending = Result<(), Fault>;
-
-// What was read, whatever it is, a cause as the fault at `place`.
-pub fn placed<T>(read: Result<T, Cause>, place: usize) -> Result<T, Fault>
-    ensures { result ≡ found_at read place }
-{
-    match read {
-        Ok(value) => Ok(value),
-        Err(cause) => Err(cause.at(place)),
-    }
-}

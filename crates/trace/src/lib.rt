@@ -3,6 +3,7 @@
 #![tactic(auto)]
 
 pub mod fault;
+pub mod kind;
 pub mod line;
 mod piece;
 pub mod record;

@@ -1,10 +1,12 @@
 // The record that a line of a text writes: a word that names its kind, and its fields.
 ghost use Rattle.std.specs.Prelude.{◌≡◌, true};
+ghost use Rattle.trace.specs.Fields.{call_of, unwind_of, sample_of};
 ghost use Rattle.trace.specs.Sources.{rest};
-ghost use Rattle.trace.specs.Text.{number_of, first_field, no_word, call_of, unwind_of, sample_of, kind_of, first_kind, record_of, line_record};
+ghost use Rattle.trace.specs.Text.{number_of, first_field, no_word, field_list, first_kind, record_of, line_record};
 ghost use Rattle.trace.specs.Words.{words_left, is_digits};
 
 use crate::fault::Cause;
+use crate::kind::Kind;
 use crate::record::{Record, Sample};
 use crate::token::{Token, Tokens};
 
@@ -13,32 +15,6 @@ const MOST_DIGITS: usize = 10;
 
 // The largest number that a field is before its range is looked at, what 32 bits hold.
 const LARGEST: u64 = 4_294_967_295;
-
-// What kind of record a line holds, by its first word. `back` is a return.
-#[derive(Clone, Copy)]
-pub(crate) enum Kind {
-    Call,
-    Back,
-    Unwind,
-    Sample,
-}
-
-// The kind that a word names.
-fn kind_of(word: &[u8]) -> Result<Kind, Cause>
-    ensures { result ≡ kind_of word.now }
-{
-    if word == b"call".as_slice() {
-        Ok(Kind::Call)
-    } else if word == b"back".as_slice() {
-        Ok(Kind::Back)
-    } else if word == b"unwind".as_slice() {
-        Ok(Kind::Unwind)
-    } else if word == b"sample".as_slice() {
-        Ok(Kind::Sample)
-    } else {
-        Err(Cause::UnknownKind)
-    }
-}
 
 // The number that digits write, if a field has no more of them and it is no larger than a field's. It never passes
 // ten times the largest, so that it fits.
@@ -87,7 +63,7 @@ fn read_kind(tokens: &mut Tokens) -> Result<Kind, Cause>
     ensures rest { words_left tokens.new ≡ rest (words_left tokens.old) }
 {
     match tokens.next() {
-        Token::Word(word, _) => kind_of(word),
+        Token::Word(word, _) => Kind::try_from(word),
         _ => Err(Cause::UnknownKind),
     }
 }
@@ -96,69 +72,43 @@ fn read_kind(tokens: &mut Tokens) -> Result<Kind, Cause>
 pub fn call_of(function: u32) -> Result<Record, Cause>
     ensures { result ≡ call_of function }
 {
-    if function < 1 || function > 65535 {
-        return Err(Cause::OutOfRange);
-    }
-    Ok(Record::Call {
-        function: function as u16,
-    })
+    let function = u16::try_from(function)?;
+    Record::Call { function }.checked()
 }
 
 // An unwind, if the count is in range.
 pub fn unwind_of(count: u32) -> Result<Record, Cause>
     ensures { result ≡ unwind_of count }
 {
-    if count < 1 || count > 4095 {
-        return Err(Cause::OutOfRange);
-    }
-    Ok(Record::Unwind {
-        count: count as u16,
-    })
+    let count = u16::try_from(count)?;
+    Record::Unwind { count }.checked()
 }
 
 // A sample, if its fields are in range.
 pub fn sample_of(step: u32, weight: u32, site: u32, region: u32) -> Result<Record, Cause>
     ensures { result ≡ sample_of step weight site region }
 {
-    if weight < 1 || site > 65535 || region > 63 {
-        return Err(Cause::OutOfRange);
-    }
-    Ok(Record::Sample(Sample {
+    let site = u16::try_from(site)?;
+    let region = u8::try_from(region)?;
+    Record::Sample(Sample {
         step,
         weight,
-        site: site as u16,
-        region: region as u8,
-    }))
+        site,
+        region,
+    })
+    .checked()
 }
 
-// A call by the words after the first.
-fn read_call(tokens: &mut Tokens) -> Result<Record, Cause>
-    ensures { result ≡ record_of Kind.Call (words_left tokens.old) }
+// So many fields, and no word after them.
+fn read_fields<const N: usize>(tokens: &mut Tokens) -> Result<[u32; N], Cause>
+    ensures { result ≡ field_list N (words_left tokens.old) }
 {
-    let function = read_field(tokens)?;
+    let mut fields = [0; N];
+    for field in &mut fields {
+        *field = read_field(tokens)?;
+    }
     read_end(tokens)?;
-    call_of(function)
-}
-
-// An unwind by the words after the first.
-fn read_unwind(tokens: &mut Tokens) -> Result<Record, Cause>
-    ensures { result ≡ record_of Kind.Unwind (words_left tokens.old) }
-{
-    let count = read_field(tokens)?;
-    read_end(tokens)?;
-    unwind_of(count)
-}
-
-// A sample by the words after the first.
-fn read_sample(tokens: &mut Tokens) -> Result<Record, Cause>
-    ensures { result ≡ record_of Kind.Sample (words_left tokens.old) }
-{
-    let step = read_field(tokens)?;
-    let weight = read_field(tokens)?;
-    let site = read_field(tokens)?;
-    let region = read_field(tokens)?;
-    read_end(tokens)?;
-    sample_of(step, weight, site, region)
+    Ok(fields)
 }
 
 // A record of the kind by the words after the first.
@@ -166,13 +116,22 @@ fn read_record(kind: Kind, tokens: &mut Tokens) -> Result<Record, Cause>
     ensures { result ≡ record_of kind (words_left tokens.old) }
 {
     match kind {
-        Kind::Call => read_call(tokens),
-        Kind::Back => {
-            read_end(tokens)?;
+        Kind::Call => {
+            let [function] = read_fields::<1>(tokens)?;
+            call_of(function)
+        }
+        Kind::Return => {
+            let [] = read_fields::<0>(tokens)?;
             Ok(Record::Return)
         }
-        Kind::Unwind => read_unwind(tokens),
-        Kind::Sample => read_sample(tokens),
+        Kind::Unwind => {
+            let [count] = read_fields::<1>(tokens)?;
+            unwind_of(count)
+        }
+        Kind::Sample => {
+            let [step, weight, site, region] = read_fields::<4>(tokens)?;
+            sample_of(step, weight, site, region)
+        }
     }
 }
 

@@ -1,6 +1,9 @@
 // The records of a trace, and the ranges of their fields.
 ghost use Rattle.std.specs.Prelude.{◌≡◌};
+ghost use Rattle.trace.specs.Meanings.{ranged_only};
 ghost use Rattle.trace.specs.Ranges.{in_range, sample_in_range};
+
+use crate::fault::Cause;
 
 // A sample: what a measurement saw at the position where the trace stood.
 #[derive(Clone, Copy, PartialEq, Eq, Debug)]
@@ -46,6 +49,17 @@ impl Record {
             Record::Return => true,
             Record::Unwind { count } => *count >= 1 && *count <= 4095,
             Record::Sample(sample) => sample.is_in_range(),
+        }
+    }
+
+    // The record, if each field is in its range.
+    pub(crate) fn checked(self) -> Result<Record, Cause>
+        ensures { result ≡ ranged_only self }
+    {
+        if self.is_in_range() {
+            Ok(self)
+        } else {
+            Err(Cause::OutOfRange)
         }
     }
 }

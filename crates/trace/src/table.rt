@@ -2,7 +2,7 @@
 ghost use Rattle.std.specs.Prelude.{◌≡◌, drop};
 ghost use Rattle.trace.specs.Tables.{table_meaning, table_ranged, table_left};
 
-use crate::fault::{Cause, Fault};
+use crate::fault::Fault;
 use crate::record::Record;
 use crate::source::Source;
 
@@ -33,13 +33,10 @@ impl Source for TableSource<'_> {
     // The index moves on only past a record in range, so that a fault and the end are answered again.
     fn next(&mut self) -> Result<Option<Record>, Fault> {
         let at = self.at;
-        if at >= self.table.len() {
+        let Some(record) = self.table.get(at) else {
             return Ok(None);
-        }
-        let record = self.table[at];
-        if !record.is_in_range() {
-            return Err(Cause::OutOfRange.at(at));
-        }
+        };
+        let record = record.checked().map_err(|cause| cause.at(at))?;
         self.at = at + 1;
         Ok(Some(record))
     }

@@ -1,9 +1,9 @@
 // A trace written as text, one record to a line.
 ghost use Rattle.std.specs.Prelude.{◌≡◌, ◌<◌, length, drop, ◌≢◌, slice_index};
-ghost use Rattle.trace.specs.Text.{text_records, text_ending, records_left, ending_left, at_place};
+ghost use Rattle.trace.specs.Text.{text_records, text_ending, records_left, ending_left};
 ghost use Rattle.trace.specs.TextRanged.{text_ranged};
 
-use crate::fault::{Cause, Fault};
+use crate::fault::Fault;
 use crate::line::read_line;
 use crate::piece::piece_end;
 use crate::record::Record;
@@ -42,7 +42,7 @@ impl Source for TextSource<'_> {
             return Ok(None);
         }
         let end = piece_end(text, at, b'\n');
-        let record = placed(read_line(&text[at..end]), at)?;
+        let record = read_line(&text[at..end]).map_err(|cause| cause.at(at))?;
         self.at = end + 1;
         Ok(Some(record))
     }
@@ -59,18 +59,4 @@ fn first_line(text: &[u8], at: usize) -> usize
         place += 1;
     }
     place
-}
-
-// A cause as the fault of the line at `place`, where it arises.
-fn placed(read: Result<Record, Cause>, place: usize) -> Result<Record, Fault>
-    ensures { result ≡ at_place read place }
-{
-    match read {
-        Ok(record) => Ok(record),
-        Err(cause) => Err(Fault {
-            cause,
-            place,
-            passed: 0,
-        }),
-    }
 }

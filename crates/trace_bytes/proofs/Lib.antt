@@ -1,3 +1,4 @@
 pub mod GroupSteps
+pub mod TakenSteps
 pub mod FieldSteps
 pub mod RecordSteps

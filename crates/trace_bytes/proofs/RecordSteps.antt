@@ -24,7 +24,7 @@ record_at xs at h = at_drop_more (bytes_meaning at) xs at 0 h
 
 -- the record is at fault
 pub faulted : (x : Result (Record × ℕ) Cause) (p : ℕ) (k : ℕ → Meaning) (m : Meaning) (f : Fault) → m ≡ record_then x p k → Err f ≡ found_at x p → Stepped m m (Err f)
-faulted (Ok v) p k m f e h = absurd (let z : ◌≡◌ {A = ℕ} 0 1 = cc in omega arith)
+faulted (Ok v) p k m f e h = cc
 faulted (Err c) p k m f e h = let g : f ≡ fault_at c p = cc in at_fault m nothing (Err c) p f e (ap Err g)
 
 -- the record is whole
@@ -32,4 +32,4 @@ pub delivered : (x : Result (Record × ℕ) Cause) (p : ℕ) (k : ℕ → Meanin
 delivered (Ok v) p k m r n e h =
     let g : (r, n) ≡ v = cc in
     subst (λ w. Stepped m (k w.1) (Ok (Some w.0))) (sym g) (at_record m (k v.1) (Ok v.0) p v.0 e refl)
-delivered (Err c) p k m r n e h = absurd (let z : ◌≡◌ {A = ℕ} 0 1 = cc in omega arith)
+delivered (Err c) p k m r n e h = cc

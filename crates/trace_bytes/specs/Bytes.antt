@@ -1,19 +1,14 @@
 -- The byte format: the record that bytes begin with, and what bytes mean. Assumes nothing.
-use Rattle.std.specs.Prelude.{ℕ, zero, suc, ◌+◌, cond, List, [], ◌∷◌, drop, Ok, Err, Result, ◌==◌}
+use Rattle.std.specs.Prelude.{ℕ, zero, suc, ◌+◌, List, [], ◌∷◌, drop, Ok, Err, Result}
+use Rattle.trace.specs.Fields.{field_count, made}
+use Rattle.trace.specs.Kinds.{kind_of_byte}
 use Rattle.trace.specs.Meanings.{Meaning, nothing, followed}
 use Rattle.trace.specs.Text.{and_then}
 use Rattle.trace.specs.declared.fault.Cause.{Cause}
-use Rattle.trace.specs.declared.fault.Cause.TheVariants.{UnknownKind}
+use Rattle.trace.specs.declared.kind.Kind.{Kind}
 use Rattle.trace.specs.declared.record.Record.{Record}
 use Rattle.trace_bytes.specs.Groups.{numbers}
-use Rattle.trace_bytes.specs.Kinds.{field_count, made}
-use Rattle.trace_bytes.specs.declared.kind.Kind.{Kind}
-use Rattle.trace_bytes.specs.declared.kind.Kind.TheVariants.{Call as IsCall, Return as IsReturn, Unwind as IsUnwind, Sample as IsSample}
 use Rattle.trace_bytes.specs.declared.source.ByteSource.{ByteSource}
-
--- the kind that a byte tells
-abbrev pub kind_of : ℕ → Result Kind Cause
-kind_of b = cond (b == 1) (Ok IsCall) (cond (b == 2) (Ok IsReturn) (cond (b == 3) (Ok IsUnwind) (cond (b == 4) (Ok IsSample) (Err UnknownKind))))
 
 -- The record of a kind whose fields bytes begin with, and how many bytes they took. The ranges come last, so that each other cause goes before.
 abbrev pub fields_record : Kind → List ℕ → Result (Record × ℕ) Cause
@@ -21,7 +16,7 @@ fields_record k bs = and_then (numbers (field_count k) bs) (λ v. and_then (made
 
 -- A record: the byte of its kind, then its fields. With it, how many bytes the fields took.
 abbrev pub record_of : ℕ → List ℕ → Result (Record × ℕ) Cause
-record_of b bs = and_then (kind_of b) (λ k. fields_record k bs)
+record_of b bs = and_then (kind_of_byte b) (λ k. fields_record k bs)
 
 -- a record at place p, and what follows the n bytes of its fields
 abbrev pub record_then : Result (Record × ℕ) Cause → ℕ → (ℕ → Meaning) → Meaning

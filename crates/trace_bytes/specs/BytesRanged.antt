@@ -1,18 +1,16 @@
 -- Each record of bytes is in range. Assumes nothing.
-use Rattle.std.specs.Prelude.{refl, ℕ, zero, suc, ◌+◌, List, [], ◌∷◌, Ok, Err, Result}
+use Rattle.std.specs.Prelude.{ℕ, zero, suc, ◌+◌, List, [], ◌∷◌, Ok, Err, Result}
+use Rattle.trace.specs.Fields.{field_count, made}
+use Rattle.trace.specs.FieldsRanged.{Good, made_good}
+use Rattle.trace.specs.Kinds.{kind_of_byte}
 use Rattle.trace.specs.Meanings.{Meaning}
-use Rattle.trace.specs.Ranges.{from_to, InRange}
+use Rattle.trace.specs.Ranges.{InRange}
 use Rattle.trace.specs.Sources.{Every}
-use Rattle.trace.specs.Text.{and_then, Numbers}
-use Rattle.trace.specs.TextRanged.{Good, checked_good, drop_middle}
+use Rattle.trace.specs.Text.{and_then}
 use Rattle.trace.specs.declared.fault.Cause.{Cause}
 use Rattle.trace.specs.declared.record.Record.{Record}
-use Rattle.trace.specs.declared.record.Record.TheVariants.{Call, Unwind}
-use Rattle.trace_bytes.specs.Bytes.{kind_of, record_of, record_then, meaning_past, bytes_meaning}
+use Rattle.trace_bytes.specs.Bytes.{record_of, record_then, meaning_past, bytes_meaning}
 use Rattle.trace_bytes.specs.Groups.{numbers}
-use Rattle.trace_bytes.specs.Kinds.{field_count, made}
-use Rattle.trace_bytes.specs.declared.kind.Kind.{Kind}
-use Rattle.trace_bytes.specs.declared.kind.Kind.TheVariants.{Call as IsCall, Return as IsReturn, Unwind as IsUnwind, Sample as IsSample}
 
 -- the record alone is in range, where there is one
 abbrev SizedGood : Result (Record × ℕ) Cause → Type 0
@@ -27,14 +25,8 @@ with_size : (r : Result Record Cause) (n : ℕ) → Good r → SizedGood (and_th
 with_size (Ok r) n h = h
 with_size (Err c) n h = tt
 
-made_good : (k : Kind) (v : Numbers (field_count k)) → Good (made k v)
-made_good IsCall v = checked_good (from_to 1 65535 v.0) (Call v.0) (λ e. e)
-made_good IsReturn v = refl
-made_good IsUnwind v = checked_good (from_to 1 4095 v.0) (Unwind v.0) (λ e. e)
-made_good IsSample v = checked_good _ _ (drop_middle (from_to 1 4294967295 v.1.0) (from_to 0 65535 v.1.1.0) (from_to 0 63 v.1.1.1.0))
-
 record_good : (b : ℕ) (bs : List ℕ) → SizedGood (record_of b bs)
-record_good b bs = then_sized (kind_of b) _ (λ k. then_sized (numbers (field_count k) bs) _ (λ v. with_size (made k v.0) v.1 (made_good k v.0)))
+record_good b bs = then_sized (kind_of_byte b) _ (λ k. then_sized (numbers (field_count k) bs) _ (λ v. with_size (made k v.0) v.1 (made_good k v.0)))
 
 then_ranged : (r : Result (Record × ℕ) Cause) (p : ℕ) (m : ℕ → Meaning) → SizedGood r → ((n : ℕ) → Every InRange (m n).records) → Every InRange (record_then r p m).records
 then_ranged (Ok x) p m h t = (h, t x.1)

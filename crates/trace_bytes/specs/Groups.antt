@@ -1,6 +1,7 @@
 -- Numbers in bytes. Assumes nothing.
 use Rattle.std.specs.Prelude.{ℕ, zero, suc, ◌+◌, ◌-◌, ◌*◌, cond, List, [], ◌∷◌, drop, Ok, Err, Result, nat_le, nat_lt}
-use Rattle.trace.specs.Text.{and_then, Numbers}
+use Rattle.trace.specs.Fields.{Numbers, listed}
+use Rattle.trace.specs.Text.{and_then}
 use Rattle.trace.specs.declared.fault.Cause.{Cause}
 use Rattle.trace.specs.declared.fault.Cause.TheVariants.{CutShort, TooLarge}
 
@@ -19,3 +20,7 @@ number bs = groups 4 bs
 abbrev pub numbers : (n : ℕ) → List ℕ → Result (Numbers n × ℕ) Cause
 numbers zero bs = Ok (tt, 0)
 numbers (suc n) bs = and_then (number bs) (λ v. and_then (numbers n (drop v.1 bs)) (λ vs. Ok ((v.0, vs.0), v.1 + vs.1)))
+
+-- the same with the numbers as a list
+abbrev pub number_list : ℕ → List ℕ → Result (List ℕ × ℕ) Cause
+number_list n bs = and_then (numbers n bs) (λ v. Ok (listed n v.0, v.1))

@@ -1,4 +1,3 @@
-pub mod Kinds
 pub mod Groups
 pub mod Bytes
 pub mod BytesRanged

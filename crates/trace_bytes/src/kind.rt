@@ -1,10 +1,3 @@
-// The kinds of records.
+// The kinds of records, which all formats share.
 
-// What kind of record stands in a trace.
-#[derive(Clone, Copy)]
-pub enum Kind {
-    Call,
-    Return,
-    Unwind,
-    Sample,
-}
+pub use trace::kind::Kind;

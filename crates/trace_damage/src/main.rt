@@ -73,7 +73,7 @@ impl Digest {
 
     fn put_fault(&mut self, fault: Fault) {
         self.put(6);
-        self.put(u64::from(fault.cause.number()));
+        self.put(u64::from(u8::from(fault.cause)));
         self.put(fault.place as u64);
         self.put(u64::from(fault.passed));
     }
@@ -113,7 +113,7 @@ impl fmt::Display for Outcome {
             None => write!(f, "{records}, no ending, {digest}"),
             Some(Ok(())) => write!(f, "{records}, end, {digest}"),
             Some(Err(fault)) => {
-                let cause = fault.cause.number();
+                let cause = u8::from(fault.cause);
                 let place = fault.place;
                 write!(f, "{records}, cause {cause} at {place}, {digest}")
             }
@@ -160,7 +160,7 @@ impl Tally {
     }
 
     fn count(&mut self, ending: Ending) {
-        let index = ending.map_or_else(|fault| usize::from(fault.cause.number()), |()| 0);
+        let index = ending.map_or_else(|fault| usize::from(u8::from(fault.cause)), |()| 0);
         let count = &mut self.counts[index];
         *count = count.saturating_add(1);
     }

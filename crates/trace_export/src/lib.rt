@@ -42,7 +42,7 @@ fn faulted(sum: u64, fault: Fault) -> u64
     ensures { result ≡ faulted sum fault }
 {
     mixed(
-        mixed(sum, u64::from(fault.cause.number())),
+        mixed(sum, u64::from(u8::from(fault.cause))),
         fault.place as u64,
     )
 }

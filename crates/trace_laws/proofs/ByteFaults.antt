@@ -14,7 +14,7 @@ use Rattle.trace_laws.proofs.ByteReading.{record_steady}
 
 -- the end is no fault
 no_fault : (f : Fault) → ◌≡◌ {A = Ending} (Ok tt) (Err f) → ⊥
-no_fault f e = let z : ◌≡◌ {A = ℕ} 0 1 = cc in omega arith
+no_fault f e = cc
 
 -- a fault that arises at p
 fault_is : (c : Cause) (p : ℕ) (f : Fault) → ◌≡◌ {A = Ending} (Err (fault_at c p)) (Err f) → fault_at c p ≡ f
@@ -77,7 +77,7 @@ bytes_before bs f e = let k : f.place - 0 ≡ f.place = omega arith in rw k at (
 
 -- Bytes with a fault mean the same with more bytes after them, unless they were cut short.
 not_short : (r : Result (Record × ℕ) Cause) (p : ℕ) (m : ℕ → Meaning) (f : Fault) → Faulty (record_then r p m) f → (f.cause ≡ CutShort → ⊥) → r ≡ Err CutShort → ⊥
-not_short (Ok x) p m f e h s = let z : ◌≡◌ {A = ℕ} 0 1 = cc in omega arith
+not_short (Ok x) p m f e h s = cc
 not_short (Err c) p m f e h s = let k : c ≡ CutShort = cc in h (sym (ap (λ g. g.cause) (fault_is c p f e)) ∙ k)
 
 then_after : (r : Result (Record × ℕ) Cause) (p : ℕ) (bs more : List ℕ) (f : Fault) → ((n : ℕ) → Faulty (following p bs n) f → following p (bs ++ more) n ≡ following p bs n) → Faulty (record_then r p (following p bs)) f → record_then r p (following p (bs ++ more)) ≡ record_then r p (following p bs)

@@ -1,13 +1,15 @@
 -- Reading takes bytes that are there, depends on no others, and stays as it is where more follow. Assumes nothing.
-use Rattle.std.proofs.Common.{◌≡◌, ℕ, zero, suc, ◌+◌, ◌-◌, ◌*◌, ◌≤◌, Bool, true, false, cond, ltb, leb, List, [], ◌∷◌, ◌++◌, length, take, drop, Ok, Err, Result, sym, refl, ap, ◌∙◌, arith, length-drop}
+use Rattle.std.proofs.Common.{◌≡◌, ℕ, zero, suc, ◌+◌, ◌-◌, ◌*◌, ◌≤◌, Bool, true, false, ltb, List, [], ◌∷◌, ◌++◌, length, take, drop, Ok, Err, Result, sym, refl, ap, ◌∙◌, arith}
 use Rattle.std.proofs.lemmas.List.{drop-append-le, drop-take}
-use Rattle.trace.specs.Text.{and_then, Numbers}
+use Rattle.trace.specs.Fields.{Numbers, field_count, made}
+use Rattle.trace.specs.Kinds.{kind_of_byte}
+use Rattle.trace.specs.Text.{and_then}
 use Rattle.trace.specs.declared.fault.Cause.{Cause}
-use Rattle.trace.specs.declared.fault.Cause.TheVariants.{CutShort, TooLarge}
-use Rattle.trace_bytes.specs.Bytes.{kind_of, fields_record, record_of}
+use Rattle.trace.specs.declared.fault.Cause.TheVariants.{CutShort}
+use Rattle.trace_bytes.proofs.TakenSteps.{taken_is, grouped, groups_there, Parts, parts_of, numbers_there, refined_ok}
+use Rattle.trace_bytes.specs.Bytes.{fields_record, record_of}
 use Rattle.trace_bytes.specs.Groups.{groups, number, numbers}
-use Rattle.trace_bytes.specs.Kinds.{field_count, made}
-use Rattle.trace_bytes.specs.declared.kind.Kind.{Kind}
+use Rattle.trace.specs.declared.kind.Kind.{Kind}
 
 -- What is read of bytes, with how many of them it took.
 abbrev pub Reading : Type 0 → Type 0
@@ -19,38 +21,6 @@ pub record Steady {X : Type 0} (read : Reading X) : Type 0 where
   pub front : (bs : List ℕ) (v : X × ℕ) (k : ℕ) → read bs ≡ Ok v → v.1 ≤ k → read (take k bs) ≡ Ok v
   pub longer : (bs more : List ℕ) → (read bs ≡ Err CutShort → ⊥) → read (bs ++ more) ≡ read bs
 
--- where two steps have a value, the first has one, and the second makes this of it
-then_ok : {X Y : Type 0} (r : Result X Cause) (f : X → Result Y Cause) (y : Y) → and_then r f ≡ Ok y → (x : X) × (r ≡ Ok x) × (f x ≡ Ok y)
-then_ok (Ok x) f y e = (x, refl, e)
-then_ok (Err c) f y e = let z : ◌≡◌ {A = ℕ} 0 1 = cc in absurd (omega arith)
-
--- how many bytes were taken
-taken_is : {X : Type 0} (x : X) (n : ℕ) (v : X × ℕ) → ◌≡◌ {A = Result (X × ℕ) Cause} (Ok (x, n)) (Ok v) → n ≡ v.1
-taken_is x n v e = let k : (x, n) ≡ v = cc in ap (λ w. w.1) k
-
--- a group that others may follow, of which r is read
-abbrev grouped : Bool → ℕ → Result (ℕ × ℕ) Cause → Result (ℕ × ℕ) Cause
-grouped t b r = cond t (Ok (b, 1)) (and_then r (λ v. Ok ((b - 128) + 128 * v.0, v.1 + 1)))
-
--- a number takes some of the bytes that are there
-top_there : (t : Bool) (b : ℕ) (bs : List ℕ) (v : ℕ × ℕ) → cond t (Ok (b, 1)) (Err TooLarge) ≡ Ok v → (1 ≤ v.1) × (v.1 ≤ suc (length bs))
-top_there true b bs v e = let k : 1 ≡ v.1 = taken_is b 1 v e in (omega arith, omega arith)
-top_there false b bs v e = let z : ◌≡◌ {A = ℕ} 0 1 = cc in absurd (omega arith)
-
-grouped_there : (t : Bool) (b : ℕ) (bs : List ℕ) (r : Result (ℕ × ℕ) Cause) (v : ℕ × ℕ) → ((w : ℕ × ℕ) → r ≡ Ok w → (1 ≤ w.1) × (w.1 ≤ length bs)) → grouped t b r ≡ Ok v → (1 ≤ v.1) × (v.1 ≤ suc (length bs))
-grouped_there true b bs r v h e = let k : 1 ≡ v.1 = taken_is b 1 v e in (omega arith, omega arith)
-grouped_there false b bs (Ok w) v h e =
-    let k : w.1 + 1 ≡ v.1 = taken_is ((b - 128) + 128 * w.0) (w.1 + 1) v e in
-    let l : (1 ≤ w.1) × (w.1 ≤ length bs) = h w refl in
-    (omega arith, omega arith)
-grouped_there false b bs (Err c) v h e = let z : ◌≡◌ {A = ℕ} 0 1 = cc in absurd (omega arith)
-
-groups_there : (more : ℕ) (bs : List ℕ) (v : ℕ × ℕ) → groups more bs ≡ Ok v → (1 ≤ v.1) × (v.1 ≤ length bs)
-groups_there zero [] v e = let z : ◌≡◌ {A = ℕ} 0 1 = cc in absurd (omega arith)
-groups_there (suc more) [] v e = let z : ◌≡◌ {A = ℕ} 0 1 = cc in absurd (omega arith)
-groups_there zero (b ∷ bs) v e = top_there (leb b 15) b bs v e
-groups_there (suc more) (b ∷ bs) v e = grouped_there (ltb b 128) b bs (groups more bs) v (groups_there more bs) e
-
 -- the bytes that it took would do
 grouped_front : (t : Bool) (b k : ℕ) (r r' : Result (ℕ × ℕ) Cause) (v : ℕ × ℕ) → ((w : ℕ × ℕ) → r ≡ Ok w → w.1 ≤ k → r' ≡ Ok w) → grouped t b r ≡ Ok v → v.1 ≤ suc k → grouped t b r' ≡ Ok v
 grouped_front true b k r r' v h e l = e
@@ -58,7 +28,7 @@ grouped_front false b k (Ok w) r' v h e l =
     let n : w.1 + 1 ≡ v.1 = taken_is ((b - 128) + 128 * w.0) (w.1 + 1) v e in
     let s : r' ≡ Ok w = h w refl (omega arith) in
     rw s e
-grouped_front false b k (Err c) r' v h e l = let z : ◌≡◌ {A = ℕ} 0 1 = cc in absurd (omega arith)
+grouped_front false b k (Err c) r' v h e l = cc
 
 groups_front : (more : ℕ) (bs : List ℕ) (v : ℕ × ℕ) (k : ℕ) → groups more bs ≡ Ok v → v.1 ≤ k → groups more (take k bs) ≡ Ok v
 groups_front more bs v zero e l = absurd (omega (arith, (groups_there more bs v e).0))
@@ -88,27 +58,6 @@ before_others n v r = and_then r (λ vs. Ok ((v.0, vs.0), v.1 + vs.1))
 abbrev with_others : (n : ℕ) → List ℕ → Result (ℕ × ℕ) Cause → Result (Numbers (suc n) × ℕ) Cause
 with_others n bs r = and_then r (λ v. before_others n v (numbers n (drop v.1 bs)))
 
--- numbers that are read, in their parts
-record Parts (n : ℕ) (bs : List ℕ) (v : Numbers (suc n) × ℕ) : Type 0 where
-  first : ℕ × ℕ
-  others : Numbers n × ℕ
-  first_read : number bs ≡ Ok first
-  others_read : numbers n (drop first.1 bs) ≡ Ok others
-  together : before_others n first (Ok others) ≡ Ok v
-  taken : first.1 + others.1 ≡ v.1
-
-parts_of : (n : ℕ) (bs : List ℕ) (v : Numbers (suc n) × ℕ) → numbers (suc n) bs ≡ Ok v → Parts n bs v
-parts_of n bs v e =
-    let x = then_ok (number bs) (λ w. before_others n w (numbers n (drop w.1 bs))) v e in
-    let y = then_ok (numbers n (drop x.0.1 bs)) (λ vs. Ok ((x.0.0, vs.0), x.0.1 + vs.1)) v x.2 in
-    record { first = x.0; others = y.0; first_read = x.1; others_read = y.1; together = y.2; taken = taken_is (x.0.0, y.0.0) (x.0.1 + y.0.1) v y.2 }
-
--- numbers, one after the other
-next_there : (n : ℕ) → Steady (numbers n) → (bs : List ℕ) (v : Numbers (suc n) × ℕ) → numbers (suc n) bs ≡ Ok v → v.1 ≤ length bs
-next_there n s bs v e =
-    let x : Parts n bs v = parts_of n bs v e in
-    omega (arith, number_steady.there bs x.first x.first_read, s.there (drop x.first.1 bs) x.others x.others_read, length-drop x.first.1 bs)
-
 -- what is left of the first k bytes past some of them
 drop_front : (n k : ℕ) (bs : List ℕ) → n ≤ k → drop n (take k bs) ≡ take (k - n) (drop n bs)
 drop_front n k bs h = let e : k ≡ n + (k - n) = omega arith in ap (λ m. drop n (take m bs)) e ∙ drop-take n (k - n) bs
@@ -134,18 +83,12 @@ next_longer n s bs more h =
     ap (with_others n (bs ++ more)) one ∙ others_longer n s bs more (number bs) refl h
 
 numbers_steady : (n : ℕ) → Steady (numbers n)
-numbers_steady zero = record { there = λ bs v e. omega (arith, taken_is tt 0 v e); front = λ bs v k e l. e; longer = λ bs more h. refl }
-numbers_steady (suc n) = record { there = next_there n (numbers_steady n); front = next_front n (numbers_steady n); longer = next_longer n (numbers_steady n) }
+numbers_steady zero = record { there = numbers_there zero; front = λ bs v k e l. e; longer = λ bs more h. refl }
+numbers_steady (suc n) = record { there = numbers_there (suc n); front = next_front n (numbers_steady n); longer = next_longer n (numbers_steady n) }
 
 -- what is made of a reading, and may refuse it
 abbrev refined : {X Y : Type 0} → (X → Result Y Cause) → Result (X × ℕ) Cause → Result (Y × ℕ) Cause
 refined f r = and_then r (λ v. and_then (f v.0) (λ y. Ok (y, v.1)))
-
-refined_ok : {X Y : Type 0} (f : X → Result Y Cause) (r : Result (X × ℕ) Cause) (v : Y × ℕ) → refined f r ≡ Ok v → (w : X × ℕ) × (r ≡ Ok w) × (w.1 ≡ v.1)
-refined_ok f r v e =
-    let x = then_ok r (λ w. and_then (f w.0) (λ y. Ok (y, w.1))) v e in
-    let y = then_ok (f x.0.0) (λ y. Ok (y, x.0.1)) v x.2 in
-    (x.0, x.1, taken_is y.0 x.0.1 v y.2)
 
 refined_steady : {X Y : Type 0} (read : Reading X) (f : X → Result Y Cause) → Steady read → Steady (λ bs. refined f (read bs))
 refined_steady read f s = record {
@@ -158,10 +101,10 @@ refined_steady read f s = record {
 kind_steady : (r : Result Kind Cause) → Steady (λ bs. and_then r (λ k. fields_record k bs))
 kind_steady (Ok k) = refined_steady (numbers (field_count k)) (made k) (numbers_steady (field_count k))
 kind_steady (Err c) = record {
-  there = λ bs v e. let z : ◌≡◌ {A = ℕ} 0 1 = cc in absurd (omega arith);
-  front = λ bs v k e l. let z : ◌≡◌ {A = ℕ} 0 1 = cc in absurd (omega arith);
+  there = λ bs v e. cc;
+  front = λ bs v k e l. cc;
   longer = λ bs more h. refl;
 }
 
 pub record_steady : (b : ℕ) → Steady (record_of b)
-record_steady b = kind_steady (kind_of b)
+record_steady b = kind_steady (kind_of_byte b)

@@ -6,14 +6,13 @@ use Rattle.std.specs.List.{flat_map}
 use Rattle.trace.specs.Meanings.{Meaning}
 use Rattle.trace.specs.Ranges.{InRange}
 use Rattle.trace.specs.Sources.{Every}
-use Rattle.trace.specs.Text.{Numbers}
+use Rattle.trace.specs.Fields.{Numbers, field_count, made}
 use Rattle.trace.specs.declared.record.Record.{Record}
 use Rattle.trace.specs.declared.record.Record.TheVariants.{Call, Return, Unwind, Sample}
 use Rattle.trace_bytes.specs.Bytes.{fields_record, record_of, record_then, meaning_past}
 use Rattle.trace_bytes.specs.Groups.{number, numbers}
-use Rattle.trace_bytes.specs.Kinds.{field_count, made}
-use Rattle.trace_bytes.specs.declared.kind.Kind.{Kind}
-use Rattle.trace_bytes.specs.declared.kind.Kind.TheVariants.{Call as IsCall, Unwind as IsUnwind, Sample as IsSample}
+use Rattle.trace.specs.declared.kind.Kind.{Kind}
+use Rattle.trace.specs.declared.kind.Kind.TheVariants.{Call as IsCall, Unwind as IsUnwind, Sample as IsSample}
 use Rattle.trace_laws.proofs.Made.{Fits, sample_made, fields_fit}
 use Rattle.trace_laws.proofs.Spellings.{most, spellings_read}
 use Rattle.trace_laws.specs.ByteLaws.{BytesReadBack}

@@ -3,7 +3,7 @@ use Rattle.std.proofs.Common.{◌≡◌, ℕ, ◌≤◌, true, ◌&&◌, leb, Ok
 use Rattle.std.proofs.lemmas.Bool.{le-leb, leb-true, and_parts, and_from}
 use Rattle.trace.specs.Ranges.{from_to, InRange}
 use Rattle.trace.specs.Sources.{Every}
-use Rattle.trace.specs.Text.{sample_of}
+use Rattle.trace.specs.Fields.{sample_of}
 use Rattle.trace.specs.declared.record.Record.{Record}
 use Rattle.trace.specs.declared.record.Record.TheVariants.{Call, Return, Unwind, Sample}
 use Rattle.trace.specs.declared.record.Sample.{Sample as Measured}

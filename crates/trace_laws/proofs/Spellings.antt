@@ -52,7 +52,7 @@ one_spelt more b bs v h l e =
 -- of the last byte that may stand there
 top_spelt : (t : Bool) (b : ℕ) (bs : List ℕ) (v : ℕ × ℕ) → leb b 15 ≡ t → cond t (Ok (b, 1)) (Err TooLarge) ≡ Ok v → SpeltIn 0 (b ∷ bs) v
 top_spelt true b bs v h e = let l : b ≤ 15 = leb-true b 15 h in one_spelt 0 b bs v (omega arith) l e
-top_spelt false b bs v h e = let z : ◌≡◌ {A = ℕ} 0 1 = cc in absurd (omega arith)
+top_spelt false b bs v h e = cc
 
 -- of a byte that others follow
 more_spelt : (more b : ℕ) (bs : List ℕ) (w v : ℕ × ℕ) → b < 256 → 128 ≤ b → SpeltIn more bs w → ◌≡◌ {A = Result (ℕ × ℕ) Cause} (Ok ((b - 128) + 128 * w.0, w.1 + 1)) (Ok v) → SpeltIn (suc more) (b ∷ bs) v
@@ -66,11 +66,11 @@ more_spelt more b bs w v h l s e =
 step_spelt : (t : Bool) (more b : ℕ) (bs : List ℕ) (r : Result (ℕ × ℕ) Cause) (v : ℕ × ℕ) → b < 256 → ltb b 128 ≡ t → ((w : ℕ × ℕ) → r ≡ Ok w → SpeltIn more bs w) → cond t (Ok (b, 1)) (and_then r (λ w. Ok ((b - 128) + 128 * w.0, w.1 + 1))) ≡ Ok v → SpeltIn (suc more) (b ∷ bs) v
 step_spelt true more b bs r v h t s e = let l : b < 128 = ltb-true b 128 t in one_spelt (suc more) b bs v l (omega arith) e
 step_spelt false more b bs (Ok w) v h t s e = more_spelt more b bs w v h (ltb-false b 128 t) (s w refl) e
-step_spelt false more b bs (Err c) v h t s e = let z : ◌≡◌ {A = ℕ} 0 1 = cc in absurd (omega arith)
+step_spelt false more b bs (Err c) v h t s e = cc
 
 groups_spelt : (more : ℕ) (bs : List ℕ) (v : ℕ × ℕ) → Every (λ b. b < 256) bs → groups more bs ≡ Ok v → SpeltIn more bs v
-groups_spelt zero [] v a e = let z : ◌≡◌ {A = ℕ} 0 1 = cc in absurd (omega arith)
-groups_spelt (suc more) [] v a e = let z : ◌≡◌ {A = ℕ} 0 1 = cc in absurd (omega arith)
+groups_spelt zero [] v a e = cc
+groups_spelt (suc more) [] v a e = cc
 groups_spelt zero (b ∷ bs) v a e = top_spelt (leb b 15) b bs v refl e
 groups_spelt (suc more) (b ∷ bs) v a e = step_spelt (ltb b 128) more b bs (groups more bs) v a.0 refl (λ w k. groups_spelt more bs w a.1 k) e
 

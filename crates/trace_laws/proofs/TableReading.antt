@@ -38,7 +38,7 @@ found_then false p r rs f m m' rest h =
     record { above = omega arith; within = omega arith; before = rw n; after = refl }
 
 found : (p : ℕ) (rs more : List Record) (f : Fault) → (table_meaning p rs).ending ≡ Err f → Found p rs f (table_meaning p rs) (table_meaning p (rs ++ more))
-found p [] more f h = absurd (let z : ◌≡◌ {A = ℕ} 0 1 = cc in omega arith)
+found p [] more f h = cc
 found p (r ∷ rs) more f h = found_then (in_range r) p r rs f (table_meaning (p + 1) rs) (table_meaning (p + 1) (rs ++ more)) (found (p + 1) rs more f) h
 
 pub table_within : TableWithin

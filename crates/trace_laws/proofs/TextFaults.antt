@@ -11,7 +11,7 @@ use Rattle.trace_laws.proofs.Joining.{pieces_append, size, size_pieces}
 
 -- an end is no fault
 pub no_fault : {X : Type 0} (f : Fault) → ◌≡◌ {A = Ending} (Ok tt) (Err f) → X
-no_fault f h = let z : ◌≡◌ {A = ℕ} 0 1 = cc in absurd (omega arith)
+no_fault f h = cc
 
 -- a fault is that of what is read first, or of what follows
 fault_of : (r : Result Record Cause) (p : ℕ) (m : Meaning) (f : Fault) → (followed r p m).ending ≡ Err f → (f.place ≡ p) ⊎ (m.ending ≡ Err f)
@@ -48,7 +48,7 @@ lines_broken p ((b ∷ bs) ∷ ls) more f h = followed_same (line_record (b ∷ 
 -- lines after lines with no fault end as they would alone, at their place
 followed_ends : (r : Result Record Cause) (p : ℕ) (m n : Meaning) (e : Ending) → (m.ending ≡ Ok tt → n.ending ≡ e) → (followed r p m).ending ≡ Ok tt → (followed r p n).ending ≡ e
 followed_ends (Ok r) p m n e same h = same h
-followed_ends (Err c) p m n e same h = let z : ◌≡◌ {A = ℕ} 0 1 = cc in absurd (omega arith)
+followed_ends (Err c) p m n e same h = cc
 
 ends_at : (p q : ℕ) (ls : List (List ℕ)) → p ≡ q → (lines_meaning p ls).ending ≡ (lines_meaning q ls).ending
 ends_at p q ls e = ap (λ n. (lines_meaning n ls).ending) e

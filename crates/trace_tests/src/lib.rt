@@ -176,7 +176,7 @@ mod tests {
             (Cause::BadField, 5),
         ];
         for (cause, number) in table {
-            assert_eq!(rt; cause.number(), number);
+            assert_eq!(rt; u8::from(cause), number);
         }
     }
 }

@@ -1,7 +1,9 @@
-use Rattle.std.proofs.Common.{◌+◌, drop, Err, sym, ap, ◌∙◌}
+use Rattle.std.proofs.Common.{◌+◌, drop, Err, sym, ap, ◌∙◌, rules}
 use Rattle.std.proofs.lemmas.Result.{err_from_is_err_and}
 use Rattle.trace.specs.Pieces.{pieces, first}
-use Rattle.trace.specs.Text.{line_record, at_place, text_records, text_ending}
+use Rattle.trace.specs.Text.{line_record, text_records, text_ending}
+use Rattle.trace.specs.Meanings.{found_at}
+use Rattle.trace.proofs.Placing.{placed}
 use Rattle.trace.proofs.Cutting.{part_is}
 use Rattle.trace.proofs.TextSteps.{at_end, at_fault, at_record, line_at}
 use Rattle.trace.proofs.text.TextSourceSource.next.Goals as goal
@@ -24,7 +26,7 @@ returns-in_err-record c =
     let place = c.piece_end-end.ensures.place in
     let m = line_at xs i e c.if-at-text.false (f.some c.if-at-text.false) place in
     let l = line_record (first (pieces 10 (drop i xs))) in
-    let h = c.in_err-record.ensures ∙ ap (λ r. at_place r i) (c.read_line.ensures ∙ ap line_record (part_is 10 xs i e place)) in
+    let h = sym c.in_err-record.was ∙ placed c.read_line.result c.map_err.result i c.map_err.ensures.cases (λ k f q. search rules) ∙ ap (λ r. found_at r i) (c.read_line.ensures ∙ ap line_record (part_is 10 xs i e place)) in
     let k = at_fault c.in_err-record.field-0.0 i l (text_records (drop (e + 1) xs)) (text_records (drop s.at xs)) (text_ending (e + 1) (drop (e + 1) xs)) (text_ending s.at (drop s.at xs)) h (sym f.records ∙ m.records) (sym f.ending ∙ m.ending) in
     let p = err_from_is_err_and c.from_residual.result c.from_residual.ensures.1 in
     record { answer = p.1 ∙ ap Err p.2 ∙ k.answer; rest = k.rest; ending = k.ending }
@@ -39,6 +41,6 @@ returns c =
     let place = c.piece_end-end.ensures.place in
     let m = line_at xs i e c.if-at-text.false (f.some c.if-at-text.false) place in
     let l = line_record (first (pieces 10 (drop i xs))) in
-    let h = c.in_ok-record.ensures ∙ ap (λ r. at_place r i) (c.read_line.ensures ∙ ap line_record (part_is 10 xs i e place)) in
+    let h = sym c.in_ok-record.was ∙ placed c.read_line.result c.map_err.result i c.map_err.ensures.cases (λ k f q. search rules) ∙ ap (λ r. found_at r i) (c.read_line.ensures ∙ ap line_record (part_is 10 xs i e place)) in
     let k = at_record c.in_ok-record.record i l (text_records (drop (e + 1) xs)) (text_records (drop s.at xs)) (text_ending (e + 1) (drop (e + 1) xs)) (text_ending s.at (drop s.at xs)) h (sym f.records ∙ m.records) (sym f.ending ∙ m.ending) in
     record { answer = k.answer; rest = k.rest; ending = k.ending }
