@@ -205,7 +205,7 @@ fn read_changed<F: Fn(&[u8]) -> Outcome, const N: usize>(
 
 // All damage that is done to a trace: a line for each length that it can be cut to, and one for each of its places.
 fn print_damage<F: Fn(&[u8]) -> Outcome, const N: usize>(
-    rt: &HostRuntime,
+    rt: &impl Print,
     name: &str,
     read: F,
     trace: &[u8; N],
