@@ -1,26 +1,17 @@
 -- Words of digits, and the words of a line by places. Assumes nothing.
-use Rattle.std.proofs.Common.{◌≡◌, ℕ, ◌+◌, ◌<◌, ◌≤◌, Bool, true, false, ◌&&◌, List, ◌∷◌, length, get_or, drop, refl, ◌∙◌, ⊎_elim, arith}
-use Rattle.std.proofs.lemmas.List.{drop_all, at_drop_more}
+use Rattle.std.proofs.Common.{◌≡◌, ℕ, ◌+◌, ◌<◌, ◌≤◌, ◌&&◌, List, [], ◌∷◌, length, drop, refl, ap, ⊎_elim, arith}
 use Rattle.std.proofs.lemmas.Bool.{le-leb, lt-leb, cases_lt}
+use Rattle.std.specs.List.{list_all}
+use Rattle.std.specs.Char.{is_ascii_digit}
 use Rattle.trace.specs.Pieces.{pieces, first}
+use Rattle.trace.specs.Ranges.{from_to}
 use Rattle.trace.specs.Words.{words_from, all_digits}
 use Rattle.trace.proofs.Cutting.{next_some, next_none}
 
-pub digit_more : (xs : List ℕ) (i : ℕ) → i < length xs → 48 ≤ get_or xs i 0 → get_or xs i 0 ≤ 57 → all_digits (drop i xs) ≡ all_digits (drop (i + 1) xs)
-digit_more xs i h lo hi = at_drop_more all_digits xs i 0 h ∙ rw (le-leb 48 (get_or xs i 0) lo, le-leb (get_or xs i 0) 57 hi)
-
-pub digit_low : (xs : List ℕ) (i : ℕ) → i < length xs → get_or xs i 0 < 48 → all_digits (drop i xs) ≡ false
-digit_low xs i h lo = at_drop_more all_digits xs i 0 h ∙ rw (lt-leb 48 (get_or xs i 0) lo)
-
-and_false : (b : Bool) → (b && false) ≡ false
-and_false true = refl
-and_false false = refl
-
-pub digit_high : (xs : List ℕ) (i : ℕ) → i < length xs → 57 < get_or xs i 0 → all_digits (drop i xs) ≡ false
-digit_high xs i h lo = at_drop_more all_digits xs i 0 h ∙ rw (lt-leb (get_or xs i 0) 57 lo, and_false)
-
-pub digit_all : (xs : List ℕ) (i : ℕ) → length xs ≤ i → all_digits (drop i xs) ≡ true
-digit_all xs i h = rw (drop_all i xs h)
+-- the test of each byte
+pub digits_all : (bs : List ℕ) → list_all (λ b. is_ascii_digit b) bs ≡ all_digits bs
+digits_all [] = refl
+digits_all (b ∷ bs) = ap (λ t. from_to 48 57 b && t) (digits_all bs)
 
 -- the word at i ends at e
 pub one_word : (xs : List ℕ) (i e : ℕ) → i ≤ length xs → e ≡ i + length (first (pieces 32 (drop i xs))) → words_from xs i ≡ first (pieces 32 (drop i xs)) ∷ words_from xs (e + 1)

@@ -4,12 +4,14 @@ ghost use Rattle.trace.specs.Pieces.{pieces, first};
 
 // The place of the first `separator` from `at` on, or the end of the bytes where there is none.
 pub(crate) fn piece_end(bytes: &[u8], at: usize, separator: u8) -> usize
+    requires { at ≤ length bytes.now }
     ensures place { result ≡ at + length (first (pieces separator (drop at bytes.now))) }
-    ensures within { at ≤ length bytes.now → result ≤ length bytes.now }
+    ensures within { result ≤ length bytes.now }
 {
-    let mut end = at;
-    while end < bytes.len() && bytes[end] != separator {
-        end += 1;
+    for end in at..bytes.len() {
+        if bytes[end] == separator {
+            return end;
+        }
     }
-    end
+    bytes.len()
 }

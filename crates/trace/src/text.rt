@@ -1,5 +1,6 @@
 // A trace written as text, one record to a line.
-ghost use Rattle.std.specs.Prelude.{◌≡◌, ◌<◌, length, drop, ◌≢◌, slice_index};
+ghost use Rattle.std.specs.List.{position_from};
+ghost use Rattle.std.specs.Prelude.{◌≡◌, ◌==◌, drop, not};
 ghost use Rattle.trace.specs.Text.{text_records, text_ending, records_left, ending_left};
 ghost use Rattle.trace.specs.TextRanged.{text_ranged};
 
@@ -37,10 +38,9 @@ impl Source for TextSource<'_> {
     // The place moves on only past a line that is a record, so that a fault and the end are answered again.
     fn next(&mut self) -> Result<Option<Record>, Fault> {
         let text = self.text;
-        let at = first_line(text, self.at);
-        if at >= text.len() {
+        let Some(at) = first_line(text, self.at) else {
             return Ok(None);
-        }
+        };
         let end = piece_end(text, at, b'\n');
         let record = read_line(&text[at..end]).map_err(|cause| cause.at(at))?;
         self.at = end + 1;
@@ -48,15 +48,11 @@ impl Source for TextSource<'_> {
     }
 }
 
-// The place of the first line from `at` on that is not empty, or the text's end where there is none.
-fn first_line(text: &[u8], at: usize) -> usize
-    ensures records { text_records (drop result text.now) ≡ text_records (drop at text.now) }
-    ensures ending { text_ending result (drop result text.now) ≡ text_ending at (drop at text.now) }
-    ensures some { result < length text.now → slice_index text.now result ≢ 10 }
+// The place of the first line from `at` on that is not empty, if there is one.
+fn first_line(text: &[u8], at: usize) -> Option<usize>
+    ensures { result ≡ position_from (λ b. not (b == 10)) at (drop at text.now) }
 {
-    let mut place = at;
-    while place < text.len() && text[place] == b'\n' {
-        place += 1;
-    }
-    place
+    let rest = text.get(at..)?;
+    let skipped = rest.iter().position(|byte| *byte != b'\n')?;
+    Some(at + skipped)
 }

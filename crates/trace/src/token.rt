@@ -28,12 +28,7 @@ pub struct Tokens<'a> {
 fn has_digits_only(word: &[u8]) -> bool
     ensures { result ≡ all_digits word.now }
 {
-    for byte in word {
-        if *byte < b'0' || *byte > b'9' {
-            return false;
-        }
-    }
-    true
+    word.iter().all(|byte| byte.is_ascii_digit())
 }
 
 // Whether there are bytes, and each is a digit: an empty word is no number.
