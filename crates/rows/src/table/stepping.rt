@@ -2,7 +2,7 @@
 ghost use Rattle.std.specs.Prelude.{◌≡◌, ◌+◌, ◌<◌, max, length, slice_index, slice_index_or};
 ghost use Rattle.rows.specs.Shapes.{shapes, blank};
 ghost use Rattle.rows.specs.Cells.{values, marks, heads, links};
-ghost use Rattle.rows.specs.Index.{Finds};
+ghost use Rattle.rows.specs.Index.{chained, Finds};
 ghost use Rattle.rows.specs.Steps.{Counted, Reached, Reach, Enter};
 
 use super::Table;
@@ -15,20 +15,20 @@ use metrics::metric::Metric;
 const MOST_DEPTH: u16 = 512;
 
 impl<'a, M: Metric> Table<'a, M> {
-    // The first row of the chain at place h, plus 1.
-    fn head_of(&self, h: usize) -> usize
+    // The first row of the chain at place h.
+    fn first_of(&self, h: usize) -> Option<usize>
         requires { h < length self.now.rows.now }
-        ensures { result ≡ slice_index (heads self.now.rows.now) h }
+        ensures { chained result ≡ slice_index (heads self.now.rows.now) h }
     {
-        usize::from(self.rows[h].head)
+        usize::from(self.rows[h].head).checked_sub(1)
     }
 
-    // The row after i in its chain, plus 1.
-    fn next_of(&self, i: usize) -> usize
+    // The row after i in its chain.
+    fn next_of(&self, i: usize) -> Option<usize>
         requires { i < length self.now.rows.now }
-        ensures { result ≡ slice_index (links self.now.rows.now) i }
+        ensures { chained result ≡ slice_index (links self.now.rows.now) i }
     {
-        usize::from(self.rows[i].next)
+        usize::from(self.rows[i].next).checked_sub(1)
     }
 
     // The row of the function below `up`, if there is one.
@@ -36,14 +36,13 @@ impl<'a, M: Metric> Table<'a, M> {
         requires { up < self.now.count }
         ensures { Finds (shapes self.now.rows.now) self.now.count up function result }
     {
-        let mut after = self.head_of(slot_of(self.rows.len(), up, function));
-        while after > 0 {
-            let i = after - 1;
+        let mut next = self.first_of(slot_of(self.rows.len(), up, function));
+        while let Some(i) = next {
             let shape = self.look(i);
             if usize::from(shape.parent) == up && shape.function == function {
                 return Some(i);
             }
-            after = self.next_of(i);
+            next = self.next_of(i);
         }
         None
     }

@@ -1,7 +1,6 @@
 use Rattle.std.proofs.Common.{set, refl, ap, ◌∙◌}
-use Rattle.rows.specs.declared.row.Row.{Row}
 use Rattle.rows.specs.Cells.{values}
-use Rattle.rows.proofs.Views.{kept_part, wrote_part}
+use Rattle.rows.proofs.Views.{kept_heads, kept_links, kept_marks, wrote_shape, wrote_value}
 use Rattle.rows.proofs.index.put.Goals as goal
 
 pub returns : goal.returns
@@ -11,9 +10,9 @@ returns g c =
     let n = c.args.n in
     let d = c.index-rows-n.result in
     record {
-      same = wrote_part (λ (r : Row _). r.shape) rows n _;
-      held = wrote_part (λ (r : Row _). m.means r.value) rows n _ ∙ ap (set (values m.means rows) n) c.unit-row.ensures;
-      noted = kept_part (λ (r : Row _). r.mark) rows n _ d 0 c.requires refl;
-      head = kept_part (λ (r : Row _). r.head) rows n _ d 0 c.requires refl;
-      link = kept_part (λ (r : Row _). r.next) rows n _ d 0 c.requires refl;
+      same = wrote_shape rows n _;
+      held = wrote_value rows n m.means _ ∙ ap (set (values m.means rows) n) c.unit-row.ensures;
+      noted = kept_marks rows n _ d c.requires refl;
+      head = kept_heads rows n _ d c.requires refl;
+      link = kept_links rows n _ d c.requires refl;
     }

@@ -1,8 +1,6 @@
 use Rattle.std.proofs.Common.{◌≤◌, set, sym, refl, ap, ◌∙◌, subst, length-set}
-use Rattle.rows.specs.declared.row.Row.{Row}
-use Rattle.rows.specs.Shapes.{blank}
 use Rattle.rows.specs.Cells.{values}
-use Rattle.rows.proofs.Views.{read_part, kept_part, wrote_part}
+use Rattle.rows.proofs.Views.{kept_heads, kept_links, kept_marks, kept_shapes, read_value, wrote_value}
 use Rattle.rows.proofs.Chains.{indexed_moved}
 use Rattle.rows.proofs.table.Table.book.Goals as goal
 
@@ -11,7 +9,7 @@ invariant_of-self-clause-indexed g c =
     let rows = c.args.self.now.rows.now in
     let i = c.args.i in
     let d = c.index-self-i-2.result in
-    indexed_moved _ _ _ _ _ _ _ (kept_part (λ (r : Row _). r.shape) rows i _ d blank c.requires refl) (kept_part (λ (r : Row _). r.head) rows i _ d 0 c.requires refl) (kept_part (λ (r : Row _). r.next) rows i _ d 0 c.requires refl) c.args.self.now.indexed
+    indexed_moved _ _ _ _ _ _ _ (kept_shapes rows i _ d c.requires refl) (kept_heads rows i _ d c.requires refl) (kept_links rows i _ d c.requires refl) c.args.self.now.indexed
 
 pub invariant_of-self-clause-few : goal.invariant_of-self-clause-few
 invariant_of-self-clause-few g c = subst (λ k. k ≤ 65535) (sym (length-set c.args.self.now.rows.now c.args.i _)) c.args.self.now.few
@@ -22,10 +20,10 @@ returns g c =
     let rows = c.args.self.now.rows.now in
     let i = c.args.i in
     let d = c.index-self-i-2.result in
-    let own = read_part (λ (r : Row _). m.means r.value) rows i c.index-self-i.result m.measure.none c.requires in
+    let own = read_value rows i m.means c.index-self-i.result m.measure.none c.requires in
     record {
-      same = kept_part (λ (r : Row _). r.shape) rows i _ d blank c.requires refl;
-      held = wrote_part (λ (r : Row _). m.means r.value) rows i _ ∙ ap (set (values m.means rows) i) (c.join.ensures ∙ ap (λ v. m.measure.join v (m.means c.args.value)) (sym own));
-      noted = kept_part (λ (r : Row _). r.mark) rows i _ d 0 c.requires refl;
+      same = kept_shapes rows i _ d c.requires refl;
+      held = wrote_value rows i m.means _ ∙ ap (set (values m.means rows) i) (c.join.ensures ∙ ap (λ v. m.measure.join v (m.means c.args.value)) own);
+      noted = kept_marks rows i _ d c.requires refl;
       count = refl;
     }

@@ -1,9 +1,8 @@
 use Rattle.std.proofs.Common.{◌≡◌, ◌-◌, ◌<◌, ◌≢◌, ◌++◌, length, get_or, drop, sym, ap, ◌∙◌, arith, length-take, get_or-set_other, get_or-set_same, below_more}
 use lib.ListN.{get_or-append}
 use Rattle.std.proofs.lemmas.List.{length-map, map-set, map-append, drop-map, get_or-append_right, get_or-drop}
-use Rattle.rows.specs.declared.row.Row.{Row}
 use Rattle.rows.specs.Columns.{meanings}
-use Rattle.rows.proofs.Views.{read_part}
+use Rattle.rows.proofs.Views.{read_value}
 use Rattle.rows.proofs.table.Table.copy_all.Goals as goal
 
 pub loop-k-preserved : goal.loop-k-preserved
@@ -17,7 +16,7 @@ loop-k-preserved g c =
     let e = map-set m.means col k _ in
     below_more _ _
     (λ j l. let ne : j ≢ k = omega arith in ap (λ u. get_or u j none) e ∙ get_or-set_other (meanings m.means col) k j _ none ne ∙ i j l)
-    (ap (λ u. get_or u k none) e ∙ get_or-set_same (meanings m.means col) k _ none h ∙ sym (read_part (λ (r : Row _). m.means r.value) c.args.self.now.rows.now k c.index-self-k.result none (omega (arith, length-take c.args.self.now.count c.args.column.now, c.args.self.now.fits, c.requires))))
+    (ap (λ u. get_or u k none) e ∙ get_or-set_same (meanings m.means col) k _ none h ∙ read_value c.args.self.now.rows.now k m.means c.index-self-k.result none (omega (arith, length-take c.args.self.now.count c.args.column.now, c.args.self.now.fits, c.requires)))
 
 pub returns : goal.returns
 returns g c =

@@ -1,7 +1,5 @@
 use Rattle.std.proofs.Common.{◌≤◌, sym, refl, subst, length-set}
-use Rattle.rows.specs.declared.row.Row.{Row}
-use Rattle.rows.specs.Shapes.{blank}
-use Rattle.rows.proofs.Views.{kept_part, wrote_part}
+use Rattle.rows.proofs.Views.{kept_heads, kept_links, kept_shapes, kept_values, wrote_mark}
 use Rattle.rows.proofs.Chains.{indexed_moved}
 use Rattle.rows.proofs.table.Table.note.Goals as goal
 
@@ -10,7 +8,7 @@ invariant_of-self-clause-indexed g c =
     let rows = c.args.self.now.rows.now in
     let i = c.args.i in
     let d = c.index-self-i.result in
-    indexed_moved _ _ _ _ _ _ _ (kept_part (λ (r : Row _). r.shape) rows i _ d blank c.requires.row refl) (kept_part (λ (r : Row _). r.head) rows i _ d 0 c.requires.row refl) (kept_part (λ (r : Row _). r.next) rows i _ d 0 c.requires.row refl) c.args.self.now.indexed
+    indexed_moved _ _ _ _ _ _ _ (kept_shapes rows i _ d c.requires.row refl) (kept_heads rows i _ d c.requires.row refl) (kept_links rows i _ d c.requires.row refl) c.args.self.now.indexed
 
 pub invariant_of-self-clause-few : goal.invariant_of-self-clause-few
 invariant_of-self-clause-few g c = subst (λ k. k ≤ 65535) (sym (length-set c.args.self.now.rows.now c.args.i _)) c.args.self.now.few
@@ -22,8 +20,8 @@ returns g c =
     let i = c.args.i in
     let d = c.index-self-i.result in
     record {
-      same = kept_part (λ (r : Row _). r.shape) rows i _ d blank c.requires.row refl;
-      held = kept_part (λ (r : Row _). m.means r.value) rows i _ d m.measure.none c.requires.row refl;
-      noted = wrote_part (λ (r : Row _). r.mark) rows i _;
+      same = kept_shapes rows i _ d c.requires.row refl;
+      held = kept_values rows i m.means _ d c.requires.row refl;
+      noted = wrote_mark rows i _;
       count = refl;
     }
