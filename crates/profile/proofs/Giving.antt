@@ -1,6 +1,6 @@
 -- The answers to one record. Assumes nothing.
-use Rattle.std.proofs.Common.{◌≡◌, ℕ, zero, suc, ◌+◌, ◌-◌, ◌<◌, ◌≤◌, max, Bool, true, false, ◌&&◌, leb, List, [], ◌∷◌, length, get_or, set, Ok, Err, Result, sym, refl, ap, ◌∙◌, subst, ap₂, ⊎_elim, add-one, arith, length-set}
-use Rattle.std.proofs.lemmas.Bool.{cases_lt, cond-true, cond-false, lt-ltb, le-ltb, le-leb, lt-leb, leb-true, and_from, and_parts}
+use Rattle.std.proofs.Common.{◌≡◌, ℕ, zero, suc, ◌+◌, ◌-◌, ◌<◌, ◌≤◌, max, true, List, [], ◌∷◌, length, get_or, set, Ok, Err, Result, sym, refl, ap, ◌∙◌, subst, ap₂, ⊎_elim, add-one, arith, length-set}
+use Rattle.std.proofs.lemmas.Bool.{cases_lt, cond-true, cond-false, lt-ltb, le-ltb, le-leb, and_from}
 use Rattle.trace.specs.declared.record.Record.{Record}
 use Rattle.trace.specs.declared.record.Record.TheVariants.{Call, Return, Unwind}
 use Rattle.rows.specs.declared.rejection.Rejection.{Rejection}
@@ -23,15 +23,6 @@ use Rattle.rows.proofs.Bridge.{gains_reached, gains_root, none_there, called, re
 -- a number in its range, by the test of the definition
 pub ranged_from : (low high n : ℕ) → low ≤ n → n ≤ high → from_to low high n ≡ true
 ranged_from low high n a b = and_from _ _ (le-leb low n a) (le-leb n high b)
-
-pub ranged_not : (low high n : ℕ) → n < low → from_to low high n ≡ true → ⊥
-ranged_not low high n a e = let z : ◌≡◌ {A = Bool} true false = sym e ∙ ap (λ b. b && leb n high) (lt-leb low n a) in absurd_bool z
-  where
-    absurd_bool : true ≡ false → ⊥
-    absurd_bool z = let o : ◌≡◌ {A = ℕ} 0 1 = cc in omega arith
-
-pub ranged_above : (low high n : ℕ) → high < n → from_to low high n ≡ true → ⊥
-ranged_above low high n a e = let z : n ≤ high = leb-true n high (and_parts (leb low n) (leb n high) e).1 in omega arith
 
 pub held_path : {M : Type 0} (a b : Held M) → a.is ≡ b.is → a.count ≡ b.count → a.room ≡ b.room → a ≡ b
 held_path a b e f g = λ i. record { is = e i; count = f i; room = g i }

@@ -1,10 +1,10 @@
 -- What the index of children gives, and how it grows. Assumes nothing.
-use Rattle.std.proofs.Common.{◌≡◌, ℕ, zero, suc, Some, None, Option, SomeIff, ◌+◌, ◌-◌, ◌<◌, ◌≤◌, cond, eqb, List, length, get_or, set, sym, refl, ap, ◌∙◌, subst, ap₂, ⊎_elim, add-one, arith, get_or-set_other, get_or-set_same}
+use Rattle.std.proofs.Common.{◌≡◌, ℕ, zero, suc, ◌+◌, ◌<◌, ◌≤◌, cond, eqb, List, length, get_or, set, sym, refl, ap, ◌∙◌, subst, ap₂, ⊎_elim, add-one, arith, get_or-set_other, get_or-set_same}
 use mathlib.Core.Logic.{∥∥₁_elim}
 use denote.Struct.Props.{props}
 use Rattle.std.proofs.lemmas.Bool.{cases_eq, cond-true, cond-false, eq-eqb, ne_eqb}
 use Rattle.rows.specs.Shapes.{Shape, blank}
-use Rattle.rows.specs.Index.{chained, slot, place_of, newest, Indexed}
+use Rattle.rows.specs.Index.{slot, place_of, newest, Indexed}
 
 -- ---- the newest row at a place
 pub newest_here : (s : List Shape) (h n : ℕ) → place_of s n ≡ h → newest s h (suc n) ≡ suc n
@@ -67,9 +67,6 @@ module _ (s : List Shape) (heads links : List ℕ) (n : ℕ) (room : n < length 
         (cases_eq k n);
   }
 
-pub indexed_none : (s : List Shape) (heads links : List ℕ) → ((h : ℕ) → h < length s → get_or heads h 0 ≡ 0) → Indexed s heads links 0
-indexed_none s heads links z = record { first = z; after = λ k l. absurd (omega arith) }
-
 -- ---- one proof at most
 indexed_prop : (s : List Shape) (heads links : List ℕ) (n : ℕ) → IsProp (Indexed s heads links n)
 indexed_prop s heads links n p q =
@@ -88,10 +85,6 @@ indexed_linked s s' heads heads' links links' n h room lh ll x e low es eh el =
     rw (es, eh, el, add-one n) (indexed_more s heads links n room lh ll x h e low)
 
 -- ---- the search along a chain
-pub chained_less : (o : Option ℕ) (n : ℕ) → SomeIff o (1 ≤ n) (n - 1) → chained o ≡ n
-chained_less None n h = omega arith
-chained_less (Some i) n h = omega arith
-
 -- The search stands before the row after - 1, or at the end where after is 0: a row of f below up can only come from there on.
 pub record Chasing (s : List Shape) (count up f after : ℕ) : Type 0 where
   pub within : after ≤ count

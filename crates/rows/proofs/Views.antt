@@ -5,7 +5,7 @@ use Rattle.std.proofs.lemmas.List.{get_or-map, map-set, length-map}
 use Rattle.rows.specs.declared.row.Row.{Row}
 use Rattle.rows.specs.Cells.{values, marks, heads, links}
 use Rattle.std.proofs.lemmas.Bool.{cases_lt, cond-true, cond-false, lt-ltb, le-ltb}
-use Rattle.rows.specs.Shapes.{Shape, shapes, blank, child}
+use Rattle.rows.specs.Shapes.{Shape, shapes, child}
 use Rattle.rows.specs.Steps.{grown}
 
 -- ---- any part
@@ -22,17 +22,8 @@ module _ {M X : Type 0} (part : Row M → X) (rows : List (Row M)) (i : ℕ) whe
 
 -- ---- each part: as the row i is read, and as a write of it leaves the list
 module _ {M : Type 0} (rows : List (Row M)) (i : ℕ) where
-  pub read_shape : (d : Row M) → i < length rows → (get_or rows i d).shape ≡ get_or (shapes rows) i blank
-  read_shape d h = sym (read_part (λ r. r.shape) rows i d blank h)
-
-  pub read_mark : (d : Row M) → i < length rows → (get_or rows i d).mark ≡ get_or (marks rows) i 0
-  read_mark d h = sym (read_part (λ r. r.mark) rows i d 0 h)
-
   pub read_head : (d : Row M) → i < length rows → (get_or rows i d).head ≡ get_or (heads rows) i 0
   read_head d h = sym (read_part (λ r. r.head) rows i d 0 h)
-
-  pub read_link : (d : Row M) → i < length rows → (get_or rows i d).next ≡ get_or (links rows) i 0
-  read_link d h = sym (read_part (λ r. r.next) rows i d 0 h)
 
   pub wrote_shape : (r : Row M) → shapes (set rows i r) ≡ set (shapes rows) i r.shape
   wrote_shape r = wrote_part (λ r. r.shape) rows i r

@@ -3,6 +3,7 @@
 use Rattle.std.specs.Prelude.{◌≡◌, ℕ, zero, suc, ◌+◌, ◌*◌, ◌%◌, ◌<◌, ◌≤◌, cond, List, length, ◌==◌, ◌≢◌, Some, None, Option, slice_index, slice_index_or}
 use Rattle.rows.specs.Shapes.{Shape, blank}
 
+-- a row as a chain holds it
 abbrev pub chained : Option ℕ → ℕ
 chained None = 0
 chained (Some i) = suc i

@@ -1,5 +1,5 @@
 // What a table answers.
-ghost use Rattle.std.specs.Prelude.{◌≡◌, ◌<◌, length, slice_index, slice_index_or};
+ghost use Rattle.std.specs.Prelude.{◌≡◌, ◌<◌, ◌≤◌, length, slice_index, slice_index_or};
 ghost use Rattle.rows.specs.Shapes.{shapes, blank};
 ghost use Rattle.rows.specs.Cells.{values, marks};
 
@@ -41,7 +41,8 @@ impl<'a, M: Metric> Table<'a, M> {
     // Where the row i went.
     pub fn mark_of(&self, i: usize) -> usize
         requires { i < length self.now.rows.now }
-        ensures { result ≡ slice_index (marks self.now.rows.now) i }
+        ensures is { result ≡ slice_index (marks self.now.rows.now) i }
+        ensures small { result ≤ 65535 }
     {
         usize::from(self.rows[i].mark)
     }

@@ -1,5 +1,4 @@
 use Rattle.std.proofs.Common.{◌<◌, ◌+◌, set, sym, refl, ap, ◌∙◌, subst, length-set}
-use Rattle.rows.specs.Shapes.{blank}
 use Rattle.rows.specs.Cells.{links}
 use Rattle.rows.proofs.Views.{kept_heads, kept_links, kept_marks, kept_shapes, kept_values, read_head, wrote_head, wrote_link}
 use Rattle.rows.proofs.index.chain.Goals as goal

@@ -1,8 +1,6 @@
 use Rattle.std.proofs.Common.{◌<◌, ◌≢◌, length, get_or, refl, ap, ◌∙◌, arith, get_or-set_other, get_or-set_same, below_more}
-use Rattle.rows.specs.Shapes.{shapes, blank}
-use Rattle.rows.specs.Cells.{heads, links}
-use Rattle.rows.proofs.Views.{kept_marks, kept_shapes, kept_values, wrote_head, long, long_heads}
-use Rattle.rows.proofs.Chains.{indexed_none}
+use Rattle.rows.specs.Cells.{heads}
+use Rattle.rows.proofs.Views.{kept_marks, kept_shapes, kept_values, wrote_head, long_heads}
 use Rattle.rows.proofs.index.clear.Goals as goal
 
 pub loop-row-preserved : goal.loop-row-preserved
@@ -22,9 +20,3 @@ loop-row-preserved g c =
           (λ k h. let ne : k ≢ i = omega arith in ap (λ u. get_or u k 0) e ∙ get_or-set_other (heads rows) i k 0 0 ne ∙ v.3 k h)
           (ap (λ u. get_or u i 0) e ∙ get_or-set_same (heads rows) i 0 0 room),
     )
-
-pub returns : goal.returns
-returns g c =
-    let v = c.loop-row.invariant in
-    let rows = c.loop-row.rows in
-    record { same = v.0; held = v.1; noted = v.2; indexed = indexed_none (shapes rows) (heads rows) (links rows) (λ h l. v.3 h (omega (arith, long rows))) }

@@ -1,23 +1,12 @@
-use Rattle.std.proofs.Common.{length, sym, refl, ap, ◌∙◌, subst, ap₂, arith}
+use Rattle.std.proofs.Common.{length, sym, ap, ◌∙◌, ap₂, arith}
 use Rattle.std.proofs.lemmas.Result.{err_from_is_err_and}
 use Rattle.rows.specs.Shapes.{shapes}
 use Rattle.rows.specs.Cells.{values}
 use Rattle.rows.specs.Reading.{reading}
-use Rattle.rows.specs.Sound.{Sound}
 use Rattle.rows.proofs.Views.{as_long, long, long_values, long_grown}
 use Rattle.rows.proofs.Sounds.{whole}
-use Rattle.profile.proofs.Giving.{held_path, ranged_not, taken, call_sound, call_taken, call_refused}
+use Rattle.profile.proofs.Giving.{held_path, taken, call_sound, call_taken, call_refused}
 use Rattle.profile.proofs.summary.Summary.call.Goals as goal
-
-pub returns-then-function-eq0 : goal.returns-then-function-eq0
-returns-then-function-eq0 g c = (refl, ranged_not 1 65535 c.args.function (omega arith))
-
-pub invariant_of-self : goal.invariant_of-self
-invariant_of-self g c =
-    let a = c.args.self.now in
-    let r = c.in_err-self.ensures.entered in
-    let w = subst (λ n. Sound (shapes c.enter.new.self.rows.now) n a.level a.current) (sym c.in_err-self.ensures.count) (subst (λ u. Sound u a.table.count a.level a.current) (sym r.0) (whole a.sound)) in
-    record { opened = w.opened; sound = ∣ w ∣₁ }
 
 pub invariant_of-self-2 : goal.invariant_of-self-2
 invariant_of-self-2 g c =

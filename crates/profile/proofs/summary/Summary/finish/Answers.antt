@@ -1,4 +1,4 @@
-use Rattle.std.proofs.Common.{◌≡◌, length, get_or, sym, refl, ap, ◌∙◌, arith}
+use Rattle.std.proofs.Common.{◌≡◌, length, get_or, sym, refl, ap, ◌∙◌}
 use Rattle.model.specs.Positions.{Position}
 use Rattle.rows.specs.Shapes.{shapes, blank}
 use Rattle.rows.specs.Cells.{values, marks}
@@ -9,15 +9,6 @@ use Rattle.profile.proofs.summary.Summary.finish.Goals as goal
 
 pub flatten-table-requires : goal.flatten-table-requires
 flatten-table-requires g c = (whole c.args.self.sound).table
-
-pub mark_of-current-requires : goal.mark_of-current-requires
-mark_of-current-requires g c = let a = c.args.self in omega (arith, c.flatten-table.ensures.long, a.opened, a.table.fits)
-
-pub invariant_of-result : goal.invariant_of-result
-invariant_of-result g c =
-    let x = c.flatten-table.ensures.flat in
-    let a = c.args.self in
-    record { opened = omega (arith, c.mark_of-current.ensures, (x.marked a.current a.opened).0); sound = ∣ x.table ∣₁ }
 
 pub returns : goal.returns
 returns g c =
@@ -30,6 +21,6 @@ returns g c =
     let x = c.flatten-table.ensures.flat in
     let to = get_or (marks after) a.current 0 in
     let deep : (get_or (shapes after) c.mark_of-current.result blank).depth ≡ (get_or (shapes rows) a.current blank).depth =
-    ap (λ k. (get_or (shapes after) k blank).depth) c.mark_of-current.ensures
+    ap (λ k. (get_or (shapes after) k blank).depth) c.mark_of-current.ensures.is
     ∙ sym (depth_is (shapes after) to) ∙ ap (λ (p : Position). length p.path) (x.marked a.current a.opened).1 ∙ depth_is (shapes rows) a.current in
     flat_finished g.met.M.Metric.lawful (shapes rows) (shapes after) (values m.means rows) (values m.means after) (marks after) n a.level a.current tree.count (whole a.sound) x a.level (get_or (shapes after) c.mark_of-current.result blank).depth refl deep

@@ -1,25 +1,11 @@
-use Rattle.std.proofs.Common.{◌≡◌, ◌<◌, length, get_or, set, sym, ap, ◌∙◌, subst, ap₂, arith, length-set, get_or-set_same}
+use Rattle.std.proofs.Common.{◌≡◌, ◌<◌, length, get_or, set, ap, ◌∙◌, ap₂, arith, length-set, get_or-set_same}
 use Rattle.rows.specs.Shapes.{shapes, blank}
 use Rattle.rows.specs.Cells.{values}
-use Rattle.rows.specs.Sound.{Sound}
 use Rattle.rows.specs.Reading.{reading}
 use Rattle.rows.proofs.Views.{as_long, long, long_values}
-use Rattle.rows.proofs.Sounds.{table_new}
 use Rattle.rows.proofs.Bridge.{reading_new}
 use Rattle.profile.proofs.Giving.{held_path}
 use Rattle.profile.proofs.summary.Summary.new.Goals as goal
-
-pub push-requires : goal.push-requires
-push-requires g c = omega (arith, c.new-table.ensures.none, as_long _ _ (ap length c.new-table.ensures.same), c.requires.some)
-
-pub invariant_of-result : goal.invariant_of-result
-invariant_of-result g c =
-    let rows = c.new-table.result.rows.now in
-    let h : 0 < length (shapes rows) = omega (arith, long rows, as_long _ _ (ap length c.new-table.ensures.same), c.requires.some) in
-    let one : c.push.new.self.count ≡ 1 = omega (arith, c.push.ensures.count, c.new-table.ensures.none) in
-    let s = c.push.ensures.same ∙ ap₂ (set (shapes rows)) c.new-table.ensures.none c.root.ensures in
-    let w = subst (λ x. Sound x 1 0 0) (sym s) (table_new (shapes rows) h) in
-    record { opened = omega (arith, one); sound = ∣ subst (λ n. Sound (shapes c.push.new.self.rows.now) n 0 0) (sym one) w ∣₁ }
 
 pub returns : goal.returns
 returns g c =

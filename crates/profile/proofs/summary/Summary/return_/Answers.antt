@@ -43,9 +43,6 @@ root-requires g c = let a = c.args.self.now in omega (arith, narrow _ _ _ (whole
 pub overflow_add-self : goal.overflow_add-self
 overflow_add-self g c = let a = c.args.self.now in let o = whole a.sound in omega (arith, narrow _ _ _ o.table, a.table.fits, a.table.few)
 
-pub push-requires : goal.push-requires
-push-requires g c = omega (arith, c.room.ensures, c.count-n.ensures)
-
 pub invariant_of-self-2 : goal.invariant_of-self-2
 invariant_of-self-2 g c =
     let m = g.M.Metric in

@@ -1,14 +1,9 @@
-use Rattle.std.proofs.Common.{sym, refl, ◌∙◌}
 use Rattle.std.proofs.lemmas.List.{length-map}
-use Rattle.std.proofs.lemmas.Result.{err_from_is_err_and}
 use Rattle.rows.specs.Shapes.{shapes}
 use Rattle.rows.specs.Cells.{values}
 use Rattle.rows.proofs.Sounds.{whole_table}
 use Rattle.rows.proofs.Columns.{included}
 use Rattle.profile.proofs.tree.Tree.inclusive.Goals as goal
-
-pub returns-in_err-places : goal.returns-in_err-places
-returns-in_err-places g c = let p = err_from_is_err_and c.from_residual.result c.from_residual.ensures.1 in let e = c.in_err-places.ensures in rw (p.1, p.2) (rw length-map e.0, refl, e.1 ∙ sym (length-map _ _))
 
 pub fill-requires : goal.fill-requires
 fill-requires g c = let t = c.args.self.now in record { tree = whole_table t.sound; long = c.in_ok-places.ensures }

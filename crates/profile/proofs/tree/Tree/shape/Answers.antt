@@ -1,12 +1,8 @@
-use Rattle.std.proofs.Common.{refl, arith}
-use Rattle.std.proofs.lemmas.Result.{err_from_is_err_and}
+use Rattle.std.proofs.Common.{arith}
 use Rattle.rows.specs.Shapes.{shapes}
 use Rattle.rows.proofs.Sounds.{whole_table}
 use Rattle.profile.proofs.Shaping.{shaped_is}
 use Rattle.profile.proofs.tree.Tree.shape.Goals as goal
-
-pub returns-in_err-places : goal.returns-in_err-places
-returns-in_err-places g c = let p = err_from_is_err_and c.from_residual.result c.from_residual.ensures.1 in let e = c.in_err-places.ensures in rw (p.1, p.2) (e.0, refl, e.1)
 
 pub returns : goal.returns
 returns g c =

@@ -15,13 +15,6 @@ loop-i-init g c =
     let l : c.args.self.now.count ≤ length col = rw length-map (omega arith) in
     (fill_start (shapes rows) c.args.self.now.count c.requires.tree g.met.M.Metric.lawful (values m.means rows) col l c.copy_all.ensures.copied, (λ k h. refl), some _ _ _ c.requires.tree, omega arith)
 
-pub hand_up-requires : goal.hand_up-requires
-hand_up-requires g c =
-    let s = shapes c.args.self.now.rows.now in
-    let i = c.loop-i.invariant in
-    let low = parent_low s c.args.self.now.count c.requires.tree (c.loop-i.i - 1) (omega (arith, i.3)) in
-    (omega (arith, low, ap (λ (x : Shape). x.parent) c.look.ensures, i.3), omega (arith, i.3))
-
 pub loop-i-preserved : goal.loop-i-preserved
 loop-i-preserved g c =
     let m = g.M.Metric in

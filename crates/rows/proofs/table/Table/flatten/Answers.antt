@@ -8,12 +8,6 @@ use Rattle.rows.proofs.Sounds.{some}
 use Rattle.rows.proofs.Flats.{flat_start, flat_ready, flat_step}
 use Rattle.rows.proofs.table.Table.flatten.Goals as goal
 
-pub take_in-requires : goal.take_in-requires
-take_in-requires g c = omega (arith, c.new-tree.ensures.none, as_long _ _ (ap length c.new-tree.ensures.same), some _ _ _ c.requires, c.args.self.fits)
-
-pub note-requires : goal.note-requires
-note-requires g c = record { row = omega (arith, c.take_in.ensures.count, c.take_in.new.self.fits); small = omega arith }
-
 pub loop-i-init : goal.loop-i-init
 loop-i-init g c =
     let m = g.M.Metric in

@@ -1,11 +1,11 @@
-use Rattle.std.proofs.Common.{◌≡◌, ◌<◌, length, get_or, set, sym, ap, ◌∙◌, subst, ap₂, arith}
+use Rattle.std.proofs.Common.{◌≡◌, ◌<◌, get_or, set, sym, ap, ◌∙◌, subst, ap₂, arith}
 use Rattle.rows.specs.Shapes.{Shape, shapes, blank}
 use Rattle.rows.specs.Cells.{values}
 use Rattle.rows.specs.Steps.{Reached}
 use Rattle.rows.specs.Cells.{marks}
 use Rattle.rows.specs.Flats.{book_at}
 use Rattle.rows.specs.Flats.{Seated}
-use Rattle.rows.proofs.Views.{as_long, long_grown, long_values}
+use Rattle.rows.proofs.Views.{long_values}
 use Rattle.rows.proofs.Flats.{seated_root, seated_child}
 use Rattle.rows.proofs.table.Table.flatten_row.Goals as goal
 
@@ -31,46 +31,6 @@ returns-then-shape-eq0 g c =
       count = omega (arith, w.count, b.count, e.count, c.requires.ready.some);
     }
 
-pub book-requires : goal.book-requires
-book-requires g c = omega (arith, as_long _ _ (ap length c.take-value.ensures.same), c.requires.inside)
-
-pub note-requires : goal.note-requires
-note-requires g c = record { row = omega (arith, as_long _ _ (ap length c.book.ensures.same), as_long _ _ (ap length c.take-value.ensures.same), c.requires.inside); small = omega arith }
-
-pub mark_of-up-requires : goal.mark_of-up-requires
-mark_of-up-requires g c =
-    let q = c.look-shape.ensures in
-    let qf = ap (λ (x : Shape). x.function) q in
-    let qp = c.from.ensures ∙ ap (λ (x : Shape). x.parent) q in
-    omega (arith, c.requires.ready.lower (omega (arith, qf)), qp, as_long _ _ (ap length c.take-value.ensures.same), c.requires.inside)
-
-pub place-to-requires : goal.place-to-requires
-place-to-requires g c =
-    let rows = c.args.self.now.rows.now in
-    let s = shapes rows in
-    let i = c.args.i in
-    let q = c.look-shape.ensures in
-    let qf = ap (λ (x : Shape). x.function) q in
-    let qp = c.from.ensures ∙ ap (λ (x : Shape). x.parent) q in
-    let e = c.take-value.ensures in
-    let f : 0 < (get_or s i blank).function = omega (arith, qf) in
-    let up : c.mark_of-up.result ≡ get_or (marks rows) (get_or s i blank).parent 0 = c.mark_of-up.ensures ∙ ap₂ (λ u p. get_or u p 0) e.noted qp in
-    record {
-      room = omega (arith, c.requires.ready.high, e.count, as_long _ _ (ap length e.same), c.requires.inside);
-      below = omega (arith, c.requires.ready.marked f, e.count, up);
-      shallow = subst (λ u. (get_or u c.mark_of-up.result blank).depth < 512) (sym e.same) (subst (λ k. (get_or s k blank).depth < 512) (sym up) (c.requires.ready.shallow f));
-    }
-
-pub book-requires-2 : goal.book-requires-2
-book-requires-2 g c = omega (arith, c.place-to.ensures.count, c.place-to.new.self.fits)
-
-pub note-requires-2 : goal.note-requires-2
-note-requires-2 g c =
-    let t = c.take-value.ensures in
-    let p = c.place-to.ensures in
-    let placed : length c.place-to.new.self.rows.now ≡ length c.take-value.new.self.rows.now = as_long _ _ (ap length p.reached.shapes ∙ long_grown _ _ _ _ _) in
-    record { row = omega (arith, as_long _ _ (ap length c.book-2.ensures.same), placed, as_long _ _ (ap length t.same), c.requires.inside); small = omega (arith, p.count, c.place-to.new.self.fits, c.place-to.new.self.few) }
-
 pub returns : goal.returns
 returns g c =
     let m = g.M.Metric in
@@ -87,7 +47,7 @@ returns g c =
     let w = c.note-2.ensures in
     let to = c.place-to.result in
     let f : 0 < (get_or s i blank).function = omega (arith, qf) in
-    let up : c.mark_of-up.result ≡ get_or (marks rows) (get_or s i blank).parent 0 = c.mark_of-up.ensures ∙ ap₂ (λ u k. get_or u k 0) e.noted qp in
+    let up : c.mark_of-up.result ≡ get_or (marks rows) (get_or s i blank).parent 0 = c.mark_of-up.ensures.is ∙ ap₂ (λ u k. get_or u k 0) e.noted qp in
     let s₂ = shapes c.place-to.new.self.rows.now in
     let v₂ = values m.means c.place-to.new.self.rows.now in
     let v₀ = values m.means c.take-value.new.self.rows.now in

@@ -1,5 +1,4 @@
 use Rattle.std.proofs.Common.{◌≤◌, sym, refl, subst, length-set}
-use Rattle.rows.specs.Shapes.{blank}
 use Rattle.rows.proofs.Views.{kept_heads, kept_links, kept_shapes, kept_values, wrote_mark}
 use Rattle.rows.proofs.Chains.{indexed_moved}
 use Rattle.rows.proofs.table.Table.note.Goals as goal

@@ -1,5 +1,4 @@
 use Rattle.std.proofs.Common.{◌≤◌, set, sym, refl, ap, ◌∙◌, subst, length-set}
-use Rattle.rows.specs.Shapes.{blank}
 use Rattle.rows.specs.Cells.{values}
 use Rattle.rows.proofs.Views.{kept_heads, kept_links, kept_marks, kept_shapes, read_value, wrote_value}
 use Rattle.rows.proofs.Chains.{indexed_moved}
