@@ -1,5 +1,5 @@
 -- A number one byte on, by places. Assumes nothing.
-use Rattle.std.proofs.Common.{◌≡◌, ℕ, zero, suc, ◌+◌, ◌-◌, ◌*◌, ◌^◌, ◌<◌, ◌≤◌, List, length, get_or, drop, Ok, Err, Result, sym, refl, ap, ◌∙◌, mul_assoc, mul-le-mul_left, pow-suc, mul-add, arith, lit≤, le-ltb, lt-ltb, le-leb}
+use Rattle.std.proofs.Common.{◌≡◌, ℕ, zero, suc, ◌+◌, ◌-◌, ◌*◌, ◌^◌, ◌<◌, ◌≤◌, List, length, get_or, drop, Ok, Err, Result, sym, refl, ap, ◌∙◌, subst, mul_assoc, mul-le-mul_left, pow-suc, mul-add, arith, lit≤, le-ltb, lt-ltb, le-leb}
 use borrow.Author.Tests.{lt-leb}
 use Rattle.std.proofs.lemmas.List.{drop_all, drop_more}
 use Rattle.trace.specs.Text.{and_then}
@@ -84,6 +84,10 @@ read_more xs at low s t next r lt h k f =
       small = omega (arith, m.0, r.small);
       same = r.same ∙ ap (above low s t) (more_bytes (4 - t) xs next (λ e. omega arith) h f) ∙ above_raised low s t (b - 128) _ ∙ ap (λ x. above (low + s * (b - 128)) (s * 128) (t + 1) (groups x (drop (next + 1) xs))) z;
     }
+
+-- four groups were read
+pub all_four : (xs : List ℕ) (at low s t : ℕ) → Read xs at low s t (at + t) → 4 ≤ t → Read xs at low s 4 (at + 4)
+all_four xs at low s t r h = let e : t ≡ 4 = omega (arith, r.few) in subst (λ n. Read xs at low s n (at + n)) e r
 
 pub read_cut : (xs : List ℕ) (at low s t next : ℕ) → Read xs at low s t next → length xs ≤ next → groups 4 (drop at xs) ≡ Err CutShort
 read_cut xs at low s t next r h = r.same ∙ ap (above low s t) (cut (4 - t) xs next h)
