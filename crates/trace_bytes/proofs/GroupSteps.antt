@@ -1,5 +1,5 @@
 -- A number one byte on, by places. Assumes nothing.
-use Rattle.std.proofs.Common.{◌≡◌, ℕ, zero, suc, ◌+◌, ◌-◌, ◌*◌, ◌^◌, ◌<◌, ◌≤◌, List, length, get_or, drop, Ok, Err, Result, sym, refl, ap, ◌∙◌, mul_assoc, mul-le-mul_left, pow-suc, mul-add, arith, lit≤, le-ltb, lt-ltb, le-leb}
+use Rattle.std.proofs.Common.{◌≡◌, ℕ, zero, suc, ◌+◌, ◌-◌, ◌*◌, ◌^◌, ◌<◌, ◌≤◌, List, length, get_or, drop, Ok, Err, Result, sym, refl, ap, ◌∙◌, subst, mul_assoc, mul-le-mul_left, pow-suc, mul-add, arith, lit≤, le-ltb, lt-ltb, le-leb}
 use borrow.Author.Tests.{lt-leb}
 use Rattle.std.proofs.lemmas.List.{drop_all, drop_more}
 use Rattle.trace.specs.Text.{and_then}
@@ -50,13 +50,6 @@ above_raised low s t b (Ok v) =
     ap (λ x. Ok (x, t + (v.1 + 1))) e ∙ ap (λ x. Ok (low + s * b + s * 128 * v.0, x)) n
 above_raised low s t b (Err c) = refl
 
-pub above_none : (r : Result (ℕ × ℕ) Cause) → r ≡ above 0 1 0 r
-above_none (Ok v) =
-    let e : v.0 ≡ 0 + 1 * v.0 = omega arith in
-    let n : v.1 ≡ 0 + v.1 = omega arith in
-    ap (λ x. Ok (x, v.1)) e ∙ ap (λ x. Ok (0 + 1 * v.0, x)) n
-above_none (Err c) = refl
-
 -- What is known of a number that begins at `at` after t groups of it, whose value is low, where the next group stands at `next`.
 pub record Read (xs : List ℕ) (at low s t next : ℕ) : Type 0 where
   pub few : t ≤ 4
@@ -64,9 +57,6 @@ pub record Read (xs : List ℕ) (at low s t next : ℕ) : Type 0 where
   pub room : s ≡ 128 ^ t
   pub small : low < s
   pub same : groups 4 (drop at xs) ≡ above low s t (groups (4 - t) (drop next xs))
-
-pub read_none : (xs : List ℕ) (at : ℕ) → Read xs at 0 1 0 at
-read_none xs at = record { few = omega arith; place = omega arith; room = refl; small = omega arith; same = above_none (groups 4 (drop at xs)) }
 
 -- what one group more makes of it fits
 pub room_left : (t s b : ℕ) → t < 4 → s ≡ 128 ^ t → b ≤ 127 → (s * b ≤ s * 127) × (s ≤ 2097152)
@@ -84,6 +74,10 @@ read_more xs at low s t next r lt h k f =
       small = omega (arith, m.0, r.small);
       same = r.same ∙ ap (above low s t) (more_bytes (4 - t) xs next (λ e. omega arith) h f) ∙ above_raised low s t (b - 128) _ ∙ ap (λ x. above (low + s * (b - 128)) (s * 128) (t + 1) (groups x (drop (next + 1) xs))) z;
     }
+
+-- four groups were read
+pub all_four : (xs : List ℕ) (at low s t : ℕ) → Read xs at low s t (at + t) → 4 ≤ t → Read xs at low s 4 (at + 4)
+all_four xs at low s t r h = let e : t ≡ 4 = omega (arith, r.few) in subst (λ n. Read xs at low s n (at + n)) e r
 
 pub read_cut : (xs : List ℕ) (at low s t next : ℕ) → Read xs at low s t next → length xs ≤ next → groups 4 (drop at xs) ≡ Err CutShort
 read_cut xs at low s t next r h = r.same ∙ ap (above low s t) (cut (4 - t) xs next h)

@@ -22,9 +22,8 @@ fn read_groups(bytes: &[u8], at: usize, place: usize) -> Result<(u32, usize), Fa
     // the value of the groups read so far, and how many values so many groups have
     let mut low: u32 = 0;
     let mut scale: u32 = 1;
-    let mut taken: usize = 0;
-    let mut next = at;
-    while taken < MOST_MORE {
+    for taken in 0..MOST_MORE {
+        let next = at + taken;
         if next >= bytes.len() {
             return Err(Cause::CutShort.at(place));
         }
@@ -34,9 +33,8 @@ fn read_groups(bytes: &[u8], at: usize, place: usize) -> Result<(u32, usize), Fa
         }
         low += scale * u32::from(byte - FOLLOWED);
         scale *= 128;
-        taken += 1;
-        next += 1;
     }
+    let next = at + MOST_MORE;
     if next >= bytes.len() {
         return Err(Cause::CutShort.at(place));
     }
@@ -44,7 +42,7 @@ fn read_groups(bytes: &[u8], at: usize, place: usize) -> Result<(u32, usize), Fa
     if byte > LARGEST_LAST {
         return Err(Cause::TooLarge.at(place));
     }
-    Ok((low + scale * u32::from(byte), taken + 1))
+    Ok((low + scale * u32::from(byte), MOST_MORE + 1))
 }
 
 // The number that begins at `at`, and how many bytes it took. A fault is that of the record at `place`. Most numbers have one byte, and

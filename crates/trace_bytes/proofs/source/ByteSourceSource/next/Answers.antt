@@ -1,8 +1,6 @@
 use Rattle.std.proofs.Common.{◌+◌, ◌≤◌, length, get_or, drop, Err, sym, ap, ◌∙◌, arith, rules, length-drop}
-use Rattle.std.proofs.lemmas.List.{drop_all}
 use Rattle.std.proofs.lemmas.Result.{err_from_is_err_and}
-use Rattle.trace.proofs.Stepping.{at_end}
-use Rattle.trace_bytes.specs.Bytes.{record_of, bytes_meaning}
+use Rattle.trace_bytes.specs.Bytes.{record_of}
 use Rattle.trace.proofs.Placing.{found_ok}
 use Rattle.trace_bytes.proofs.TakenSteps.{record_there}
 use Rattle.trace_bytes.proofs.RecordSteps.{past_record, record_at, faulted, delivered}
@@ -16,12 +14,6 @@ overflow_add-self-2 c =
     let t : c.in_ok-record.taken ≤ length (drop (s.at + 1) xs) = record_there (get_or xs s.at 0) (drop (s.at + 1) xs) _ r in
     let w : s.at + 1 + c.in_ok-record.taken ≤ length xs = omega (arith, length-drop (s.at + 1) xs) in
     search rules
-
-pub returns-then-at-self : goal.returns-then-at-self
-returns-then-at-self c =
-    let s = c.args.self.now in
-    let k = at_end _ (ap (bytes_meaning s.at) (drop_all s.at s.bytes.now c.if-at-self.true)) in
-    record { answer = k.answer; rest = k.rest; ending = k.ending }
 
 pub returns-in_err-record : goal.returns-in_err-record
 returns-in_err-record c =
