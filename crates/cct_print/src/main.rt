@@ -2,12 +2,12 @@
 
 #![tactic(auto)]
 
-use printing::{PrintError, print_trace};
+use printing::{MOST_BYTES, PrintError, print_trace};
 use std::io::Read;
 use std::process::ExitCode;
 
 // One byte more than a trace may have, so that a longer one is noticed.
-const MOST_READ: u64 = 65_537;
+const MOST_READ: u64 = MOST_BYTES as u64 + 1;
 
 fn main(rt: HostRuntime) -> anyhow::Result<ExitCode> {
     let heap = rt.alloc();

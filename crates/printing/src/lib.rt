@@ -28,7 +28,7 @@ use trace::text::TextSource;
 pub type Cost = Pair<Calls, Work>;
 
 // A longer trace is not read.
-const MOST_BYTES: usize = 65_536;
+pub const MOST_BYTES: usize = 65_536;
 
 // The cause of a stop where the trace is longer.
 const INPUT_TOO_LONG: u8 = 15;
@@ -115,8 +115,8 @@ fn lines_of(heap: Global, tree: &Tree<'_, Cost>) -> Result<Vec<PageLine>, AllocE
     let order = order_of(heap, tree)?;
     let inclusive = inclusive_of(heap, tree)?;
     let mut lines = Vec::new(heap);
-    for line in order.iter() {
-        let at = line.row as usize;
+    for line in &order {
+        let at = usize::from(line.row);
         match tree.row(at) {
             Some(row) => lines.push(page_line(line.depth, row, inclusive[at]))?,
             None => unreachable(),
@@ -147,26 +147,21 @@ fn read_through(heap: Global, read: ReadIn) -> Result<(), PrintError>
     requires { read.stop ≢ Limit }
     ensures { GoesOn (stopping read.added read.stop) result }
 {
-    match read.stop {
+    let line = match read.stop {
         Stop::Limit => unreachable(),
-        Stop::End => Ok(()),
-        Stop::Faulted(fault) => Err(stopped(
-            heap,
-            StopLine {
-                cause: u8::from(fault.cause),
-                place: fault.place,
-                passed: fault.passed,
-            },
-        )),
-        Stop::Rejected(rejection) => Err(stopped(
-            heap,
-            StopLine {
-                cause: u8::from(rejection),
-                place: read.added,
-                passed: 0,
-            },
-        )),
-    }
+        Stop::End => return Ok(()),
+        Stop::Faulted(fault) => StopLine {
+            cause: u8::from(fault.cause),
+            place: fault.place,
+            passed: fault.passed,
+        },
+        Stop::Rejected(rejection) => StopLine {
+            cause: u8::from(rejection),
+            place: read.added,
+            passed: 0,
+        },
+    };
+    Err(stopped(heap, line))
 }
 
 // What is printed of a text trace.
@@ -174,14 +169,12 @@ pub fn print_trace(heap: Global, text: &[u8]) -> Result<String, PrintError>
     ensures { Prints text.now result }
 {
     if text.len() > MOST_BYTES {
-        return Err(stopped(
-            heap,
-            StopLine {
-                cause: INPUT_TOO_LONG,
-                place: MOST_BYTES,
-                passed: 0,
-            },
-        ));
+        let line = StopLine {
+            cause: INPUT_TOO_LONG,
+            place: MOST_BYTES,
+            passed: 0,
+        };
+        return Err(stopped(heap, line));
     }
     let mut table = vec![in heap; Row::<Cost>::empty(); ROWS]?;
     let mut summary = Summary::new(table.as_mut_slice());

@@ -61,7 +61,7 @@ fn children(shape: &[ShapeRow], tree: &Tree, parent: u16, at: usize, column: &mu
     end
 }
 
-// Fills the column's first nodes with the rows of the shape in the order of their outline. A refusal leaves the
+// Fills the column's first places with the rows of the shape in the order of their outline. A refusal leaves the
 // column as it was. Want of memory may be found before a fault in the depths or in rows that share parent and function.
 #[tactic(auto, using(crate::proofs::Drawn::whole_drawn, crate::proofs::Sizes::size_root))]
 pub fn outline(heap: Global, shape: &[ShapeRow], column: &mut [Line]) -> Result<(), OutlineError>

@@ -89,8 +89,7 @@ impl Digest {
 
 impl fmt::Display for Digest {
     fn fmt<W: fmt::Write>(&self, f: &mut fmt::Formatter<W>) -> fmt::Result {
-        let value = self.value;
-        write!(f, "{value:016x}")
+        write!(f, "{:016x}", self.value)
     }
 }
 
@@ -107,17 +106,15 @@ struct Outcome {
 
 impl fmt::Display for Outcome {
     fn fmt<W: fmt::Write>(&self, f: &mut fmt::Formatter<W>) -> fmt::Result {
-        let records = self.records;
-        let digest = self.digest;
+        write!(f, "{}, ", self.records)?;
         match self.ending {
-            None => write!(f, "{records}, no ending, {digest}"),
-            Some(Ok(())) => write!(f, "{records}, end, {digest}"),
+            None => write!(f, "no ending")?,
+            Some(Ok(())) => write!(f, "end")?,
             Some(Err(fault)) => {
-                let cause = u8::from(fault.cause);
-                let place = fault.place;
-                write!(f, "{records}, cause {cause} at {place}, {digest}")
+                write!(f, "cause {} at {}", u8::from(fault.cause), fault.place)?;
             }
         }
+        write!(f, ", {}", self.digest)
     }
 }
 
@@ -128,16 +125,14 @@ fn read_out<S: Source>(source: &mut S, bytes: usize) -> Outcome {
     for records in 0..=bytes {
         let answer = source.next();
         digest.put_answer(answer);
-        let ending = match answer {
-            Ok(Some(_)) => continue,
-            Ok(None) => Ok(()),
-            Err(fault) => Err(fault),
-        };
+        if let Ok(Some(_)) = answer {
+            continue;
+        }
         digest.put_answer(source.next());
         digest.put_answer(source.next());
         return Outcome {
             records,
-            ending: Some(ending),
+            ending: Some(answer.map(|_| ())),
             digest,
         };
     }
