@@ -1,6 +1,5 @@
 pub mod Cutting
 pub mod WordSteps
-pub mod NumberSteps
 pub mod Making
 pub mod LineSteps
 pub mod TextSteps

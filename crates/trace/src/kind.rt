@@ -20,16 +20,12 @@ impl TryFrom<&[u8]> for Kind {
     ghost try_from_gives = { λ word r. r ≡ kind_of_word word.now };
 
     fn try_from(word: &[u8]) -> Result<Kind, Cause> {
-        if word == b"call".as_slice() {
-            Ok(Kind::Call)
-        } else if word == b"back".as_slice() {
-            Ok(Kind::Return)
-        } else if word == b"unwind".as_slice() {
-            Ok(Kind::Unwind)
-        } else if word == b"sample".as_slice() {
-            Ok(Kind::Sample)
-        } else {
-            Err(Cause::UnknownKind)
+        match word {
+            b"call" => Ok(Kind::Call),
+            b"back" => Ok(Kind::Return),
+            b"unwind" => Ok(Kind::Unwind),
+            b"sample" => Ok(Kind::Sample),
+            _ => Err(Cause::UnknownKind),
         }
     }
 }

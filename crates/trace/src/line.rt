@@ -13,11 +13,7 @@ use crate::token::{Token, Tokens};
 // The most digits that a field has.
 const MOST_DIGITS: usize = 10;
 
-// The largest number that a field is before its range is looked at, what 32 bits hold.
-const LARGEST: u64 = 4_294_967_295;
-
-// The number that digits write, if a field has no more of them and it is no larger than a field's. It never passes
-// ten times the largest, so that it fits.
+// The number that digits write, if a field has no more of them and the number fits its 32 bits. So many digits always fit 64 bits.
 fn number_of(digits: &[u8]) -> Result<u32, Cause>
     requires { is_digits digits.now ≡ true }
     ensures { result ≡ number_of digits.now }
@@ -28,11 +24,8 @@ fn number_of(digits: &[u8]) -> Result<u32, Cause>
     let mut value: u64 = 0;
     for digit in digits {
         value = value * 10 + u64::from(*digit - b'0');
-        if value > LARGEST {
-            return Err(Cause::TooLarge);
-        }
     }
-    Ok(value as u32)
+    u32::try_from(value).map_err(|_| Cause::TooLarge)
 }
 
 // The next word as a field.
@@ -68,7 +61,7 @@ fn read_kind(tokens: &mut Tokens) -> Result<Kind, Cause>
     }
 }
 
-// A call, if the function is in range.
+// A call, if the function is in range. It and the two below serve text and bytes, which read the same fields.
 pub fn call_of(function: u32) -> Result<Record, Cause>
     ensures { result ≡ call_of function }
 {

@@ -1,3 +1,3 @@
-// The kinds of records, which all formats share.
+// The kinds of records, which text and bytes share.
 
 pub use trace::kind::Kind;

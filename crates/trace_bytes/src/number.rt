@@ -24,10 +24,9 @@ fn read_groups(bytes: &[u8], at: usize, place: usize) -> Result<(u32, usize), Fa
     let mut scale: u32 = 1;
     for taken in 0..MOST_MORE {
         let next = at + taken;
-        if next >= bytes.len() {
+        let Some(&byte) = bytes.get(next) else {
             return Err(Cause::CutShort.at(place));
-        }
-        let byte = bytes[next];
+        };
         if byte < FOLLOWED {
             return Ok((low + scale * u32::from(byte), taken + 1));
         }
@@ -35,10 +34,9 @@ fn read_groups(bytes: &[u8], at: usize, place: usize) -> Result<(u32, usize), Fa
         scale *= 128;
     }
     let next = at + MOST_MORE;
-    if next >= bytes.len() {
+    let Some(&byte) = bytes.get(next) else {
         return Err(Cause::CutShort.at(place));
-    }
-    let byte = bytes[next];
+    };
     if byte > LARGEST_LAST {
         return Err(Cause::TooLarge.at(place));
     }
@@ -51,11 +49,8 @@ pub fn read_number(bytes: &[u8], at: usize, place: usize) -> Result<(u32, usize)
     ensures value { result ≡ found_at (number (drop at bytes.now)) place }
     ensures within { IfOk result (λ v. at + v.1 ≤ length bytes.now) }
 {
-    if at < bytes.len() {
-        let byte = bytes[at];
-        if byte < FOLLOWED {
-            return Ok((u32::from(byte), 1));
-        }
+    match bytes.get(at) {
+        Some(&byte) if byte < FOLLOWED => Ok((u32::from(byte), 1)),
+        _ => read_groups(bytes, at, place),
     }
-    read_groups(bytes, at, place)
 }
