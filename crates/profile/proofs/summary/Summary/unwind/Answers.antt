@@ -10,7 +10,7 @@ use Rattle.rows.proofs.Views.{long_values}
 use Rattle.rows.proofs.Sounds.{whole}
 use Rattle.rows.proofs.Readings.{depth_is}
 use Rattle.rows.proofs.Bridge.{unwound_none}
-use Rattle.profile.proofs.Giving.{ranged_from, taken, path_low, along, unwound_long}
+use Rattle.profile.proofs.Giving.{taken, path_low, along, unwound_long}
 use Rattle.profile.proofs.summary.Summary.unwind.Goals as goal
 use Rattle.profile.proofs.summary.Summary.unwind.Goals.{else-count-deep-via-then-count-deep+else-from-room, else-count-deep-via-else-count-deep}
 
@@ -22,7 +22,7 @@ returns-then-from-room g c =
     let d = sym (ap (λ (x : Shape). x.depth) c.at_open-deep.ensures) in
     let p = depth_is (shapes rows) a.current in
     let low = path_low g.met.M.Metric.lawful (shapes rows) (values m.means rows) a.table.count a.level a.current (whole a.sound) (long_values m.means rows) in
-    (refl, (ranged_from 1 4095 c.args.count (omega arith) (omega arith), omega (arith, unwound_long c.args.count (context (shapes rows) a.current)), omega arith))
+    (refl, (sym c.if-not-is_in_range.ensures, omega (arith, unwound_long c.args.count (context (shapes rows) a.current)), omega arith))
 
 pub loop-init : goal.loop-init
 loop-init g c =
@@ -54,7 +54,7 @@ returns g c =
     let e : c.loop.counter ≡ c.args.count = omega arith in
     let w = c.loop.invariant in
     taken {m = m.measure} _ _ _ (record {
-      ranged = ranged_from 1 4095 c.args.count (omega arith) (omega arith);
+      ranged = sym c.if-not-is_in_range.ensures;
       shallow = omega (arith, unwound_long c.args.count (context (shapes rows) a.current));
       fits = fits;
       is = w.is ∙ ap (λ k. added m.measure (view m.measure m.means a).is (Unwind k)) e;
