@@ -1,5 +1,5 @@
 -- The answers to one record. Assumes nothing.
-use Rattle.std.proofs.Common.{◌≡◌, ℕ, zero, suc, ◌+◌, ◌-◌, ◌<◌, ◌≤◌, max, true, List, [], ◌∷◌, length, get_or, set, Ok, Err, Result, sym, refl, ap, ◌∙◌, subst, ap₂, ⊎_elim, add-one, arith, length-set}
+use Rattle.std.proofs.Common.{◌≡◌, ℕ, zero, suc, ◌+◌, ◌-◌, ◌<◌, ◌≤◌, max, true, List, [], ◌∷◌, length, get_or, set, Ok, Err, sym, refl, ap, ◌∙◌, subst, ap₂, ⊎_elim, add-one, arith, length-set}
 use Rattle.std.proofs.lemmas.Bool.{cases_lt, cond-true, cond-false, lt-ltb, le-ltb, leb-true, and_parts}
 use Rattle.trace.specs.declared.record.Record.{Record}
 use Rattle.trace.specs.declared.record.Record.TheVariants.{Call, Return, Unwind}
@@ -166,19 +166,22 @@ pub record Along {M : Type 0} (m : Measure M) (a b : Held M) (i : ℕ) : Type 0 
   pub room : b.room ≡ a.room
 
 module _ {M : Type 0} (m : Measure M) (a : Held M) (k : ℕ) (low : length a.is.end.path ≤ 512) (fits : a.count + (k - length a.is.end.path) ≤ a.room) where
-  pub along : (i : ℕ) (b c : Held M) (r : Result (Unit {0}) Rejection) → i < k → Along m a b i → Given m b c Return r → Along m a c (i + 1)
-  along i b c (Ok _) h w g =
+  pub along : (i : ℕ) (b c : Held M) → i < k → Along m a b i → Given m b c Return (Ok tt) → Along m a c (i + 1)
+  along i b c h w g =
       let l : length b.is.end.path ≡ length a.is.end.path - i = ap (λ (x : Summary M). length x.end.path) w.is ∙ unwound_long i a.is.end in
       record {
         is = ap (λ (x : Held M). x.is) g.1 ∙ ap (λ x. added m x Return) w.is ∙ unwinds_more m a.is i ∙ ap (λ j. added m a.is (Unwind j)) (sym (add-one i));
         count = omega (arith, ap (λ (x : Held M). x.count) g.1, w.count, l);
         room = ap (λ (x : Held M). x.room) g.1 ∙ w.room;
       }
-  along i b c (Err OutOfRange) h w g = absurd (g.1 refl)
-  along i b c (Err TableSize) h w g = absurd g.1
-  along i b c (Err PathTooLong) h w g =
+
+  -- there is room for each of the returns
+  pub never : (i : ℕ) (b c : Held M) (e : Rejection) → i < k → Along m a b i → Given m b c Return (Err e) → ⊥
+  never i b c OutOfRange h w g = g.1 refl
+  never i b c TableSize h w g = g.1
+  never i b c PathTooLong h w g =
       let l : length b.is.end.path ≡ length a.is.end.path - i = ap (λ (x : Summary M). length x.end.path) w.is ∙ unwound_long i a.is.end in
-      absurd (omega (arith, g.1.1, l, unwound_long 1 b.is.end))
-  along i b c (Err TooFewRows) h w g =
+      omega (arith, g.1.1, l, unwound_long 1 b.is.end)
+  never i b c TooFewRows h w g =
       let l : length b.is.end.path ≡ length a.is.end.path - i = ap (λ (x : Summary M). length x.end.path) w.is ∙ unwound_long i a.is.end in
-      absurd (omega (arith, g.1.2, w.count, w.room, l))
+      omega (arith, g.1.2, w.count, w.room, l)

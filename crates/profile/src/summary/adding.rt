@@ -103,11 +103,11 @@ impl<'a, M: Metric> Summary<'a, M> {
         }
         let deep = self.at_open().depth;
         let room = self.table.room() - self.table.count();
-        if count > deep && usize::from(count - deep) > room {
+        if usize::from(count.saturating_sub(deep)) > room {
             return Err(Rejection::TooFewRows);
         }
         for _ in 0..count {
-            let _ = self.return_();
+            self.return_()?;
         }
         Ok(())
     }
