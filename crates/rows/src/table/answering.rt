@@ -1,7 +1,7 @@
 // What a table answers.
 ghost use Rattle.std.specs.Prelude.{◌≡◌, ◌<◌, ◌≤◌, length, slice_index, slice_index_or};
 ghost use Rattle.rows.specs.Shapes.{shapes, blank};
-ghost use Rattle.rows.specs.Cells.{values, marks};
+ghost use Rattle.rows.specs.Cells.{values, marks, Gets};
 
 use super::Table;
 use crate::row::Shape;
@@ -36,6 +36,14 @@ impl<'a, M: Metric> Table<'a, M> {
         ensures { M.means result ≡ slice_index_or (values M.means self.now.rows.now) at M.measure.none }
     {
         self.rows[at].value
+    }
+
+    // The shape and the value of the row of that number, none beyond the rows in use.
+    pub fn get(&self, number: usize) -> Option<(Shape, M)>
+        ensures { Gets M.means M.measure.none (shapes self.now.rows.now) (values M.means self.now.rows.now) self.now.count number result }
+    {
+        let row = self.rows[..self.count].get(number)?;
+        Some((row.shape, row.value))
     }
 
     // Where the row i went.
