@@ -7,7 +7,7 @@ use super::Table;
 use crate::row::Shape;
 use metrics::metric::Metric;
 
-impl<'a, M: Metric> Table<'a, M> {
+impl<'a, M> Table<'a, M> {
     // How many rows are in use.
     pub fn count(&self) -> usize
         ensures { result ≡ self.now.count }
@@ -30,6 +30,17 @@ impl<'a, M: Metric> Table<'a, M> {
         self.rows[i].shape
     }
 
+    // Where the row i went.
+    pub fn mark_of(&self, i: usize) -> usize
+        requires { i < length self.now.rows.now }
+        ensures is { result ≡ slice_index (marks self.now.rows.now) i }
+        ensures small { result ≤ 65535 }
+    {
+        usize::from(self.rows[i].mark)
+    }
+}
+
+impl<'a, M: Metric> Table<'a, M> {
     // The value of the row at `at`.
     pub fn value_of(&self, at: usize) -> M
         requires { at < length self.now.rows.now }
@@ -44,14 +55,5 @@ impl<'a, M: Metric> Table<'a, M> {
     {
         let row = self.rows[..self.count].get(number)?;
         Some((row.shape, row.value))
-    }
-
-    // Where the row i went.
-    pub fn mark_of(&self, i: usize) -> usize
-        requires { i < length self.now.rows.now }
-        ensures is { result ≡ slice_index (marks self.now.rows.now) i }
-        ensures small { result ≤ 65535 }
-    {
-        usize::from(self.rows[i].mark)
     }
 }
