@@ -11,10 +11,11 @@ values means rows = map (λ r. means r.value) rows
 abbrev pub marks : {M : Type 0} → List (Row M) → List ℕ
 marks rows = map (λ r. r.mark) rows
 
--- the chains: the first row of the chain at each place, and the row after each row, both plus 1
+-- the first row of the chain at each place, plus 1
 abbrev pub heads : {M : Type 0} → List (Row M) → List ℕ
 heads rows = map (λ r. r.head) rows
 
+-- the row after each row in its chain, plus 1
 abbrev pub links : {M : Type 0} → List (Row M) → List ℕ
 links rows = map (λ r. r.next) rows
 
