@@ -1,6 +1,6 @@
 -- The answers to one record. Assumes nothing.
-use Rattle.std.proofs.Common.{◌≡◌, ℕ, zero, suc, ◌+◌, ◌-◌, ◌<◌, ◌≤◌, max, true, List, [], ◌∷◌, length, get_or, set, Ok, Err, Result, sym, refl, ap, ◌∙◌, subst, ap₂, ⊎_elim, add-one, arith, length-set}
-use Rattle.std.proofs.lemmas.Bool.{cases_lt, cond-true, cond-false, lt-ltb, le-ltb, le-leb, and_from}
+use Rattle.std.proofs.Common.{◌≡◌, ℕ, zero, suc, ◌+◌, ◌-◌, ◌<◌, ◌≤◌, max, true, List, [], ◌∷◌, length, get_or, set, Ok, Err, sym, refl, ap, ◌∙◌, subst, ap₂, ⊎_elim, add-one, arith, length-set}
+use Rattle.std.proofs.lemmas.Bool.{cases_lt, cond-true, cond-false, lt-ltb, le-ltb, leb-true, and_parts}
 use Rattle.trace.specs.declared.record.Record.{Record}
 use Rattle.trace.specs.declared.record.Record.TheVariants.{Call, Return, Unwind}
 use Rattle.rows.specs.declared.rejection.Rejection.{Rejection}
@@ -15,14 +15,10 @@ use Rattle.rows.specs.Index.{Found}
 use Rattle.rows.specs.Steps.{Entered, Refused, grownValues}
 use Rattle.rows.specs.Reading.{context, listed, reading}
 use Rattle.rows.specs.Gains.{Gains}
-use Rattle.trace.specs.Ranges.{from_to, InRange}
+use Rattle.trace.specs.Ranges.{InRange}
 use Rattle.profile.specs.Given.{Held, need, step, Accepts, Refuses, Given}
 use Rattle.rows.proofs.Readings.{context_child, depth_is, any_at}
 use Rattle.rows.proofs.Bridge.{gains_reached, gains_root, none_there, called, returned_child, returned_root, unwinds_more}
-
--- a number in its range, by the test of the definition
-pub ranged_from : (low high n : ℕ) → low ≤ n → n ≤ high → from_to low high n ≡ true
-ranged_from low high n a b = and_from _ _ (le-leb low n a) (le-leb n high b)
 
 pub held_path : {M : Type 0} (a b : Held M) → a.is ≡ b.is → a.count ≡ b.count → a.room ≡ b.room → a ≡ b
 held_path a b e f g = λ i. record { is = e i; count = f i; room = g i }
@@ -50,12 +46,15 @@ module _ {M : Type 0} {m : Measure M} (laws : Laws m) (s : List Shape) (v : List
   path_low = omega (arith, path_long, (o.table.good cur o.opened).depth)
 
   -- ---- a call
-  module _ (f : ℕ) (named : 0 < f) where
+  module _ (f : ℕ) (ranged : InRange (Call f)) where
+    named : 0 < f
+    named = omega (arith, leb-true 1 f (and_parts _ _ ranged).0)
+
     found_there : (c : ℕ) → Found s n cur f c → c < n → any_of (same (at (context s cur).level (f ∷ (context s cur).path))) (listed m.none s v n) ≡ true
     found_there c found l =
         let pa = found.is_parent l in
         let fn = found.is_function l in
-        let is : context s c ≡ at (context s cur).level (f ∷ (context s cur).path) = context_child s n top o.table c l (omega (arith, fn)) ∙ ap₂ (λ p g. at (context s p).level (g ∷ (context s p).path)) pa fn in
+        let is : context s c ≡ at (context s cur).level (f ∷ (context s cur).path) = context_child s n top o.table c l (omega (arith, fn, named)) ∙ ap₂ (λ p g. at (context s p).level (g ∷ (context s p).path)) pa fn in
         subst (λ y. any_of (same y) (listed m.none s v n) ≡ true) is (any_at m.none s v n c l)
 
     module _ (s' : List Shape) (v' : List M) (c n' : ℕ) (e : Entered m.none m.join m.of_call s s' v v' n cur f c) (em : n' ≡ max n (c + 1)) where
@@ -81,9 +80,9 @@ module _ {M : Type 0} {m : Measure M} (laws : Laws m) (s : List Shape) (v : List
           (omega (arith, e.found.within), omega (arith, e.found.within, e.room)))
           (cases_lt c n)
 
-      pub call_taken : (room room' : ℕ) → f ≤ 65535 → room ≡ length s → room' ≡ room → Taken m (held m s v n cur room) (held m s' v' n' c room') (Call f)
-      call_taken room room' ranged er er' = record {
-        ranged = ranged_from 1 65535 f (omega arith) ranged;
+      pub call_taken : (room room' : ℕ) → room ≡ length s → room' ≡ room → Taken m (held m s v n cur room) (held m s' v' n' c room') (Call f)
+      call_taken room room' er er' = record {
+        ranged = ranged;
         shallow = omega (arith, path_long, e.shallow);
         fits = omega (arith, call_need.1);
         is = called laws s v n top cur o s' (grownValues m.none v n c) v' n' f c gains (omega (arith, long_grown, e.room)) e.values;
@@ -91,13 +90,13 @@ module _ {M : Type 0} {m : Measure M} (laws : Laws m) (s : List Shape) (v : List
         room = er';
       }
 
-    pub call_refused : (room : ℕ) (w : Rejection) → f ≤ 65535 → room ≡ length s → Refused s n cur f w → Refuses (held m s v n cur room) (Call f) w
-    call_refused room OutOfRange h er r = absurd r
-    call_refused room TableSize h er r = absurd r
-    call_refused room PathTooLong h er r = (ranged_from 1 65535 f (omega arith) h, omega (arith, path_long, r))
-    call_refused room TooFewRows h er r =
+    pub call_refused : (room : ℕ) (w : Rejection) → room ≡ length s → Refused s n cur f w → Refuses (held m s v n cur room) (Call f) w
+    call_refused room OutOfRange er r = absurd r
+    call_refused room TableSize er r = absurd r
+    call_refused room PathTooLong er r = (ranged, omega (arith, path_long, r))
+    call_refused room TooFewRows er r =
         let z : need (reading m s v n cur) (Call f) ≡ 1 = cond-false _ _ _ (none_there laws s v n top o.table cur f o.opened r.2) in
-        (ranged_from 1 65535 f (omega arith) h, omega (arith, path_long, r.0), omega (arith, r.1))
+        (ranged, omega (arith, path_long, r.0), omega (arith, r.1))
 
   -- ---- a return
   pub child_sound : 0 < (get_or s cur blank).function → Sound s n top (get_or s cur blank).parent
@@ -167,19 +166,22 @@ pub record Along {M : Type 0} (m : Measure M) (a b : Held M) (i : ℕ) : Type 0 
   pub room : b.room ≡ a.room
 
 module _ {M : Type 0} (m : Measure M) (a : Held M) (k : ℕ) (low : length a.is.end.path ≤ 512) (fits : a.count + (k - length a.is.end.path) ≤ a.room) where
-  pub along : (i : ℕ) (b c : Held M) (r : Result (Unit {0}) Rejection) → i < k → Along m a b i → Given m b c Return r → Along m a c (i + 1)
-  along i b c (Ok _) h w g =
+  pub along : (i : ℕ) (b c : Held M) → i < k → Along m a b i → Given m b c Return (Ok tt) → Along m a c (i + 1)
+  along i b c h w g =
       let l : length b.is.end.path ≡ length a.is.end.path - i = ap (λ (x : Summary M). length x.end.path) w.is ∙ unwound_long i a.is.end in
       record {
         is = ap (λ (x : Held M). x.is) g.1 ∙ ap (λ x. added m x Return) w.is ∙ unwinds_more m a.is i ∙ ap (λ j. added m a.is (Unwind j)) (sym (add-one i));
         count = omega (arith, ap (λ (x : Held M). x.count) g.1, w.count, l);
         room = ap (λ (x : Held M). x.room) g.1 ∙ w.room;
       }
-  along i b c (Err OutOfRange) h w g = absurd (g.1 refl)
-  along i b c (Err TableSize) h w g = absurd g.1
-  along i b c (Err PathTooLong) h w g =
+
+  -- there is room for each of the returns
+  pub never : (i : ℕ) (b c : Held M) (e : Rejection) → i < k → Along m a b i → Given m b c Return (Err e) → ⊥
+  never i b c OutOfRange h w g = g.1 refl
+  never i b c TableSize h w g = g.1
+  never i b c PathTooLong h w g =
       let l : length b.is.end.path ≡ length a.is.end.path - i = ap (λ (x : Summary M). length x.end.path) w.is ∙ unwound_long i a.is.end in
-      absurd (omega (arith, g.1.1, l, unwound_long 1 b.is.end))
-  along i b c (Err TooFewRows) h w g =
+      omega (arith, g.1.1, l, unwound_long 1 b.is.end)
+  never i b c TooFewRows h w g =
       let l : length b.is.end.path ≡ length a.is.end.path - i = ap (λ (x : Summary M). length x.end.path) w.is ∙ unwound_long i a.is.end in
-      absurd (omega (arith, g.1.2, w.count, w.room, l))
+      omega (arith, g.1.2, w.count, w.room, l)

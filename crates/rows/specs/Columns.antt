@@ -19,6 +19,7 @@ abbrev pub holder : List Shape → ℕ → ℕ → ℕ → ℕ
 holder s i zero j = j
 holder s i (suc d) j = cond (nat_lt j i) j (holder s i d (get_or s j blank).parent)
 
+-- whether j's value stands at k then
 abbrev pub stands : List Shape → ℕ → ℕ → ℕ → Bool
 stands s i k j = holder s i (get_or s j blank).depth j == k
 
@@ -32,6 +33,7 @@ pub record Filling {M : Type 0} (m : Measure M) (s : List Shape) (v col : List M
   pub below : (k : ℕ) → k < n → k < i → slice_index_or col k m.none ≡ joins m (stands s i k) (numbered m.none v n)
   pub above : (k : ℕ) → k < n → i ≤ k → slice_index_or col k m.none ≡ inclusive_of m s v n k
 
+-- what the values of a column mean
 abbrev pub meanings : {M V : Type 0} → (M → V) → List M → List V
 meanings means column = map means column
 
@@ -39,6 +41,7 @@ meanings means column = map means column
 abbrev pub handed : {M : Type 0} → Measure M → List M → ℕ → ℕ → List M
 handed m col p r = slice_set col p (m.join (slice_index_or col p m.none) (slice_index_or col r m.none))
 
+-- the first n places have what v has there, and the others keep what they held
 pub record Copied {M : Type 0} (none : M) (v col col' : List M) (n : ℕ) : Type 0 where
   pub copied : (k : ℕ) → k < n → slice_index_or col' k none ≡ slice_index_or v k none
   pub rest : (k : ℕ) → n ≤ k → slice_index_or col' k none ≡ slice_index_or col k none
@@ -53,7 +56,7 @@ abbrev pub leaves : {M : Type 0} → M → List Shape → List M → ℕ → Lis
 leaves none s v zero = []
 leaves none s v (suc n) = ((context s n).path, slice_index_or v n none) ∷ leaves none s v n
 
--- the same, in the words of trees
+-- the column filled, in the words of trees
 pub record Included {M : Type 0} (m : Measure M) (s : List Shape) (v col col' : List M) (n : ℕ) : Type 0 where
   pub filled : (k : ℕ) → k < n → slice_index_or col' k m.none ≡ inclusive m (leaves m.none s v n) (context s k).path
   pub rest : (k : ℕ) → n ≤ k → slice_index_or col' k m.none ≡ slice_index_or col k m.none

@@ -1,4 +1,4 @@
--- How a summary's rows become those of its tree, in the same table. Assumes nothing.
+-- How a summary's rows become those of its tree, in the same slice. Assumes nothing.
 use Rattle.std.specs.Prelude.{◌≡◌, ℕ, ◌+◌, ◌<◌, ◌≤◌, max, cond, List, [], ◌∷◌, get_or, ◌==◌, slice_index, slice_index_or, slice_set}
 use Rattle.model.specs.Positions.{Position, at, same}
 use Rattle.metrics.specs.Measures.{Measure}
@@ -36,6 +36,7 @@ pub record Ready (s : List Shape) (marks : List ℕ) (c i : ℕ) : Type 0 where
   pub marked : 0 < (get_or s i blank).function → slice_index marks (get_or s i blank).parent < c
   pub shallow : 0 < (get_or s i blank).function → (get_or s (slice_index marks (get_or s i blank).parent) blank).depth < 512
 
+-- The step of the row i has put it at the tree's row r: the row is found or made, the value is joined there, and the mark says so.
 pub record Seated {M : Type 0} (m : Measure M) (s s' : List Shape) (v v' : List M) (marks marks' : List ℕ) (c i r : ℕ) : Type 0 where
   pub gains : Gains m s s' (slice_set v i m.none) (grownValues m.none (slice_set v i m.none) c r) c (max c (r + 1)) 0 0 r (seat_target s marks (get_or s i blank).function (get_or s i blank).parent)
   pub near : r ≤ c

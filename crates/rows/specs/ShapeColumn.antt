@@ -2,12 +2,15 @@
 use Rattle.std.specs.Prelude.{◌≡◌, ℕ, zero, suc, ◌<◌, ◌≤◌, cond, List, length, ◌==◌, ◌≢◌, slice_index_or}
 use Rattle.rows.specs.declared.shape.ShapeRow.{ShapeRow}
 
+-- what stands beyond a column's end
 abbrev pub no_row : ShapeRow
 no_row = record { function = 0; parent = 0 }
 
+-- the last function of the row i
 abbrev pub function_at : List ShapeRow → ℕ → ℕ
 function_at s i = (slice_index_or s i no_row).function
 
+-- the number of the row above the row i
 abbrev pub parent_at : List ShapeRow → ℕ → ℕ
 parent_at s i = (slice_index_or s i no_row).parent
 
@@ -29,6 +32,7 @@ pub record IsRooted (s : List ShapeRow) : Type 0 where
   pub called : (i : ℕ) → 0 < i → i < length s → 0 < function_at s i
   pub above : (i : ℕ) → 0 < i → i < length s → parent_at s i < i
 
+-- the rows of a tree: rooted, with paths of at most 512
 pub record IsShape (s : List ShapeRow) : Type 0 where
   pub rooted : IsRooted s
   pub shallow : (i : ℕ) → i < length s → depth_of s i ≤ 512

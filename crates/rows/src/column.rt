@@ -40,7 +40,9 @@ impl<'a, M: Metric> Table<'a, M> {
             hand_up(column, usize::from(self.look(i).parent), i);
         }
     }
+}
 
+impl<'a, M> Table<'a, M> {
     // Fills the column with the shape of the rows in use.
     pub fn fill_shape(&self, column: &mut [ShapeRow])
         requires { self.now.count ≤ length column.old }

@@ -18,13 +18,12 @@ impl<'a, M: Metric> Table<'a, M> {
     {
         let shape = self.look(i);
         let value = self.take(i);
-        if shape.function == 0 {
-            self.book(0, value);
-            self.note(i, 0);
-            return 0;
-        }
-        let up = self.mark_of(usize::from(shape.parent));
-        let to = self.place(up, shape.function);
+        let to = if shape.function == 0 {
+            0
+        } else {
+            let up = self.mark_of(usize::from(shape.parent));
+            self.place(up, shape.function)
+        };
         self.book(to, value);
         self.note(i, to);
         to

@@ -1,5 +1,6 @@
-// The index of children, so that the child of a row is found in constant time however many it has. It lies in the rows: each place
-// of the table has a chain of the rows whose parent and function are mapped to it.
+// The index of children, as it lies in the rows: each place of the table has a chain of the rows whose parent and function are mapped
+// to it, so that a child is found in constant time however many its parent has. Here are the place of a child and the writes of rows
+// and chains; the search itself is `Table::child`.
 ghost use Rattle.std.specs.Prelude.{◌≡◌, ◌+◌, ◌<◌, ◌≤◌, length, slice_index, slice_set};
 ghost use Rattle.rows.specs.Shapes.{shapes};
 ghost use Rattle.rows.specs.Cells.{values, marks, heads, links};

@@ -2,9 +2,9 @@
 
 #![tactic(auto)]
 
-pub mod column;
-pub mod flatten;
-pub mod index;
+mod column;
+mod flatten;
+mod index;
 pub mod rejection;
 pub mod row;
 pub mod shape;

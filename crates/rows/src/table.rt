@@ -21,6 +21,18 @@ pub struct Table<'a, M> {
     ghost indexed: { ∥ Indexed (shapes rows.now) (heads rows.now) (links rows.now) count ∥₁ },
 }
 
+impl<'a, M> Table<'a, M> {
+    // The place of the row i in the index.
+    fn slot_at(&self, i: usize) -> usize
+        requires { i < length self.now.rows.now }
+        ensures is { result ≡ place_of (shapes self.now.rows.now) i }
+        ensures within { result < length self.now.rows.now }
+    {
+        let shape = self.look(i);
+        slot_of(self.rows.len(), usize::from(shape.parent), shape.function)
+    }
+}
+
 impl<'a, M: Metric> Table<'a, M> {
     // A table with no row in use.
     pub fn new(rows: &'a mut [Row<M>]) -> Table<'a, M>
@@ -31,16 +43,6 @@ impl<'a, M: Metric> Table<'a, M> {
     {
         clear(rows);
         Table { rows, count: 0 }
-    }
-
-    // The place of the row i in the index.
-    fn slot_at(&self, i: usize) -> usize
-        requires { i < length self.now.rows.now }
-        ensures is { result ≡ place_of (shapes self.now.rows.now) i }
-        ensures within { result < length self.now.rows.now }
-    {
-        let shape = self.look(i);
-        slot_of(self.rows.len(), usize::from(shape.parent), shape.function)
     }
 
     // Keeps where the row i went.
@@ -61,6 +63,8 @@ impl<'a, M: Metric> Table<'a, M> {
         ensures same { shapes self.new.rows.now ≡ shapes self.old.rows.now }
         ensures held { values M.means self.new.rows.now ≡ slice_set (values M.means self.old.rows.now) i (M.measure.join (slice_index_or (values M.means self.old.rows.now) i M.measure.none) (M.means value)) }
         ensures noted { marks self.new.rows.now ≡ marks self.old.rows.now }
+        ensures head { heads self.new.rows.now ≡ heads self.old.rows.now }
+        ensures link { links self.new.rows.now ≡ links self.old.rows.now }
         ensures count { self.new.count ≡ self.old.count }
     {
         let own = self.rows[i].value;

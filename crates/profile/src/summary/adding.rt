@@ -16,7 +16,7 @@ use trace::record::{Record, Sample};
 pub fn check_table<M>(rows: &[Row<M>]) -> Result<(), Rejection>
     ensures { result ≡ tabled (length rows.now) }
 {
-    if rows.len() == 0 || rows.len() > 65535 {
+    if rows.is_empty() || rows.len() > 65535 {
         return Err(Rejection::TableSize);
     }
     Ok(())
@@ -57,7 +57,7 @@ impl<'a, M: Metric> Summary<'a, M> {
     pub fn call(&mut self, function: u16) -> Result<(), Rejection>
         ensures { Given M.measure (view M.measure M.means self.old) (view M.measure M.means self.new) (Call function) result }
     {
-        if function == 0 {
+        if !(Record::Call { function }).is_in_range() {
             return Err(Rejection::OutOfRange);
         }
         self.current = self.table.enter(self.current, function)?;
@@ -98,16 +98,16 @@ impl<'a, M: Metric> Summary<'a, M> {
     pub fn unwind(&mut self, count: u16) -> Result<(), Rejection>
         ensures { Given M.measure (view M.measure M.means self.old) (view M.measure M.means self.new) (Unwind count) result }
     {
-        if count == 0 || count > 4095 {
+        if !(Record::Unwind { count }).is_in_range() {
             return Err(Rejection::OutOfRange);
         }
         let deep = self.at_open().depth;
         let room = self.table.room() - self.table.count();
-        if count > deep && usize::from(count - deep) > room {
+        if usize::from(count.saturating_sub(deep)) > room {
             return Err(Rejection::TooFewRows);
         }
         for _ in 0..count {
-            let _ = self.return_();
+            self.return_()?;
         }
         Ok(())
     }

@@ -33,11 +33,7 @@ impl<'a, M: Metric> Summary<'a, M> {
     pub fn row(&self, number: usize) -> Option<SummaryRow<M>>
         ensures { AnswersRow M.measure M.means self.now number result }
     {
-        if number >= self.row_count() {
-            return None;
-        }
-        let shape = self.table.look(number);
-        let value = self.table.value_of(number);
+        let (shape, value) = self.table.get(number)?;
         Some(SummaryRow {
             level: usize::from(shape.level),
             function: shape.function,

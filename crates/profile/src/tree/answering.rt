@@ -32,11 +32,7 @@ impl<'a, M: Metric> Tree<'a, M> {
     pub fn row(&self, number: usize) -> Option<TreeRow<M>>
         ensures { AnswersRow M.measure M.means self.now number result }
     {
-        if number >= self.row_count() {
-            return None;
-        }
-        let shape = self.table.look(number);
-        let value = self.table.value_of(number);
+        let (shape, value) = self.table.get(number)?;
         Some(TreeRow {
             function: shape.function,
             parent: usize::from(shape.parent),

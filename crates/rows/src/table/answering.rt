@@ -1,13 +1,13 @@
 // What a table answers.
 ghost use Rattle.std.specs.Prelude.{◌≡◌, ◌<◌, ◌≤◌, length, slice_index, slice_index_or};
 ghost use Rattle.rows.specs.Shapes.{shapes, blank};
-ghost use Rattle.rows.specs.Cells.{values, marks};
+ghost use Rattle.rows.specs.Cells.{values, marks, Gets};
 
 use super::Table;
 use crate::row::Shape;
 use metrics::metric::Metric;
 
-impl<'a, M: Metric> Table<'a, M> {
+impl<'a, M> Table<'a, M> {
     // How many rows are in use.
     pub fn count(&self) -> usize
         ensures { result ≡ self.now.count }
@@ -30,6 +30,17 @@ impl<'a, M: Metric> Table<'a, M> {
         self.rows[i].shape
     }
 
+    // Where the row i went.
+    pub fn mark_of(&self, i: usize) -> usize
+        requires { i < length self.now.rows.now }
+        ensures is { result ≡ slice_index (marks self.now.rows.now) i }
+        ensures small { result ≤ 65535 }
+    {
+        usize::from(self.rows[i].mark)
+    }
+}
+
+impl<'a, M: Metric> Table<'a, M> {
     // The value of the row at `at`.
     pub fn value_of(&self, at: usize) -> M
         requires { at < length self.now.rows.now }
@@ -38,12 +49,11 @@ impl<'a, M: Metric> Table<'a, M> {
         self.rows[at].value
     }
 
-    // Where the row i went.
-    pub fn mark_of(&self, i: usize) -> usize
-        requires { i < length self.now.rows.now }
-        ensures is { result ≡ slice_index (marks self.now.rows.now) i }
-        ensures small { result ≤ 65535 }
+    // The shape and the value of the row of that number, none beyond the rows in use.
+    pub fn get(&self, number: usize) -> Option<(Shape, M)>
+        ensures { Gets M.means M.measure.none (shapes self.now.rows.now) (values M.means self.now.rows.now) self.now.count number result }
     {
-        usize::from(self.rows[i].mark)
+        let row = self.rows[..self.count].get(number)?;
+        Some((row.shape, row.value))
     }
 }

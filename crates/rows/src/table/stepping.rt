@@ -14,7 +14,7 @@ use metrics::metric::Metric;
 // The most functions that a path has.
 const MOST_DEPTH: u16 = 512;
 
-impl<'a, M: Metric> Table<'a, M> {
+impl<'a, M> Table<'a, M> {
     // The first row of the chain at place h.
     fn first_of(&self, h: usize) -> Option<usize>
         requires { h < length self.now.rows.now }
@@ -46,7 +46,9 @@ impl<'a, M: Metric> Table<'a, M> {
         }
         None
     }
+}
 
+impl<'a, M: Metric> Table<'a, M> {
     // The row of the function below `up`, made with the unit where there is none.
     pub(crate) fn place(&mut self, up: usize, function: u16) -> usize
         requires room { self.old.count < length self.old.rows.now }

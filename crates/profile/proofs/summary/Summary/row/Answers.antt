@@ -1,4 +1,4 @@
-use Rattle.std.proofs.Common.{◌<◌, ◌∷◌, get_or, sym, ap, ◌∙◌, arith}
+use Rattle.std.proofs.Common.{◌∷◌, get_or, sym, ap, ◌∙◌, arith}
 use Rattle.model.specs.Positions.{at}
 use Rattle.rows.specs.declared.row.Shape.{Shape}
 use Rattle.rows.specs.Shapes.{shapes, blank}
@@ -19,16 +19,16 @@ returns g c =
     let n = a.table.count in
     let k = c.args.number in
     let t = (whole a.sound).table in
-    let h : k < n = omega arith in
-    let fn = ap (λ (x : Shape). x.function) c.look-shape.ensures in
-    let pa = c.from-2.ensures ∙ ap (λ (x : Shape). x.parent) c.look-shape.ensures in
+    let h = c.in_ok-shape.ensures.0 in
+    let fn = ap (λ (x : Shape). x.function) c.in_ok-shape.ensures.1 in
+    let pa = c.from-2.ensures ∙ ap (λ (x : Shape). x.parent) c.in_ok-shape.ensures.1 in
     record {
       within = h;
       there = any_at m.measure.none s v n k h;
-      level = c.from.ensures ∙ ap (λ (x : Shape). x.level) c.look-shape.ensures;
+      level = c.from.ensures ∙ ap (λ (x : Shape). x.level) c.in_ok-shape.ensures.1;
       root = λ e. let r = root_row s n a.level t k h e in (fn ∙ r.0, pa ∙ r.1);
       child = λ f.
           let r = child_row s n a.level t k h (named_row s n a.level t k h f) in
           (omega (arith, pa, r.0), r.1 ∙ sym (ap (λ p. at (context s p).level ((get_or s k blank).function ∷ (context s p).path)) pa) ∙ sym (ap (λ f. at (context s c.from-2.result).level (f ∷ (context s c.from-2.result).path)) fn));
-      value = c.value_of-value.ensures ∙ sym (joins_own g.met.M.Metric.lawful s v n a.level t k n h (omega arith));
+      value = c.in_ok-shape.ensures.2 ∙ sym (joins_own g.met.M.Metric.lawful s v n a.level t k n h (omega arith));
     }

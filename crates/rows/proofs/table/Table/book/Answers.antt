@@ -25,5 +25,7 @@ returns g c =
       same = kept_shapes rows i _ d c.requires refl;
       held = wrote_value rows i m.means _ ∙ ap (set (values m.means rows) i) (c.join.ensures ∙ ap (λ v. m.measure.join v (m.means c.args.value)) own);
       noted = kept_marks rows i _ d c.requires refl;
+      head = kept_heads rows i _ d c.requires refl;
+      link = kept_links rows i _ d c.requires refl;
       count = refl;
     }
