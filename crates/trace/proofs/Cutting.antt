@@ -1,27 +1,11 @@
 -- The first piece, and what is left past it. Assumes nothing.
-use Rattle.std.proofs.Common.{◌≡◌, ℕ, suc, ◌+◌, ◌-◌, ◌<◌, ◌≤◌, Bool, true, false, cond, eqb, List, [], ◌∷◌, length, get_or, take, drop, refl, ap, ◌∙◌, arith, length-drop, eq-eqb, ne_eqb}
-use Rattle.std.proofs.lemmas.List.{drop_all, at_drop_more, drop-drop}
+use Rattle.std.proofs.Common.{◌≡◌, ℕ, suc, ◌+◌, ◌-◌, ◌<◌, ◌≤◌, Bool, true, false, cond, eqb, List, [], ◌∷◌, length, take, drop, refl, ap, arith, length-drop}
+use Rattle.std.proofs.lemmas.List.{drop-drop}
 use Rattle.trace.specs.Pieces.{onto, pieces, first}
 
 pub first_onto : (b : ℕ) (ps : List (List ℕ)) → first (onto b ps) ≡ b ∷ first ps
 first_onto b [] = refl
 first_onto b (p ∷ ps) = refl
-
--- the end of a piece, one byte on
-pub end_more : (sep : ℕ) (xs : List ℕ) (i : ℕ) → i < length xs → (get_or xs i 0 ≡ sep → ⊥) → i + length (first (pieces sep (drop i xs))) ≡ (i + 1) + length (first (pieces sep (drop (i + 1) xs)))
-end_more sep xs i h ne =
-    let e : first (pieces sep (drop i xs)) ≡ get_or xs i 0 ∷ first (pieces sep (drop (i + 1) xs)) = at_drop_more (λ bs. first (pieces sep bs)) xs i 0 h ∙ rw (ne_eqb (get_or xs i 0) sep ne) (first_onto (get_or xs i 0) (pieces sep (drop (i + 1) xs))) in
-    omega (arith, ap length e)
-
--- at a separator
-pub end_stop : (sep : ℕ) (xs : List ℕ) (i : ℕ) → i < length xs → get_or xs i 0 ≡ sep → length (first (pieces sep (drop i xs))) ≡ 0
-end_stop sep xs i h e =
-    let k : first (pieces sep (drop i xs)) ≡ [] = at_drop_more (λ bs. first (pieces sep bs)) xs i 0 h ∙ rw (eq-eqb (get_or xs i 0) sep e) in
-    ap length k
-
--- at the end of the bytes
-pub end_all : (sep : ℕ) (xs : List ℕ) (i : ℕ) → length xs ≤ i → length (first (pieces sep (drop i xs))) ≡ 0
-end_all sep xs i h = rw (drop_all i xs h)
 
 front_if : (t : Bool) (b : ℕ) (bs : List ℕ) (ps : List (List ℕ)) → take (length (first ps)) bs ≡ first ps → take (length (first (cond t ([] ∷ ps) (onto b ps)))) (b ∷ bs) ≡ first (cond t ([] ∷ ps) (onto b ps))
 front_if true b bs ps h = refl

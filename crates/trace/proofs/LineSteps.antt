@@ -4,15 +4,9 @@ use Rattle.std.proofs.lemmas.List.{length-set, take_more_set, take_all}
 use Rattle.trace.specs.Sources.{rest}
 use Rattle.trace.specs.Fields.{Numbers, listed, field_count, made}
 use Rattle.trace.proofs.Making.{made_list, made_same}
-use Rattle.trace.specs.Text.{and_then, first_field, no_word, fields, field_list, first_kind, record_of, line_record}
-use Rattle.trace.specs.Words.{words}
+use Rattle.trace.specs.Text.{and_then, first_field, no_word, fields, field_list, record_of}
 use Rattle.trace.specs.declared.fault.Cause.{Cause}
 use Rattle.trace.specs.declared.kind.Kind.{Kind}
-use Rattle.trace.specs.declared.record.Record.{Record}
-
--- a kind and then a record of it
-pub kind_then : (line : List ℕ) (ws : List (List ℕ)) (k : Kind) (r : Result Record Cause) → Ok k ≡ first_kind (words line) → ws ≡ rest (words line) → r ≡ record_of k ws → r ≡ line_record line
-kind_then line ws k r first others h = rw (h, others, ← first)
 
 -- the fields so far, and the n others that the words are
 abbrev pub after_fields : List ℕ → ℕ → List (List ℕ) → Result (List ℕ) Cause

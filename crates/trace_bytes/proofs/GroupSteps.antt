@@ -1,10 +1,8 @@
 -- A number one byte on, by places. Assumes nothing.
-use Rattle.std.proofs.Common.{◌≡◌, ℕ, zero, suc, ◌+◌, ◌-◌, ◌*◌, ◌^◌, ◌<◌, ◌≤◌, List, length, get_or, drop, Ok, Err, Result, sym, refl, ap, ◌∙◌, subst, mul_assoc, mul-le-mul_left, pow-suc, mul-add, arith, lit≤, le-ltb, lt-ltb, le-leb}
-use borrow.Author.Tests.{lt-leb}
-use Rattle.std.proofs.lemmas.List.{drop_all, drop_more}
+use Rattle.std.proofs.Common.{◌≡◌, ℕ, zero, suc, ◌+◌, ◌-◌, ◌*◌, ◌^◌, ◌<◌, ◌≤◌, List, length, get_or, drop, Ok, Err, Result, sym, refl, ap, ◌∙◌, mul_assoc, mul-le-mul_left, pow-suc, mul-add, arith, lit≤, le-ltb}
+use Rattle.std.proofs.lemmas.List.{drop_more}
 use Rattle.trace.specs.Text.{and_then}
 use Rattle.trace.specs.declared.fault.Cause.{Cause}
-use Rattle.trace.specs.declared.fault.Cause.TheVariants.{CutShort, TooLarge}
 use Rattle.trace_bytes.specs.Groups.{groups}
 
 -- what so many groups hold
@@ -18,22 +16,6 @@ room_most (suc (suc (suc (suc k)))) h = absurd (omega arith)
 -- the upper groups under a lower one
 abbrev pub raised : ℕ → Result (ℕ × ℕ) Cause → Result (ℕ × ℕ) Cause
 raised low r = and_then r (λ v. Ok (low + 128 * v.0, v.1 + 1))
-
-pub cut : (more : ℕ) (xs : List ℕ) (at : ℕ) → length xs ≤ at → groups more (drop at xs) ≡ Err CutShort
-cut zero xs at h = rw (drop_all at xs h)
-cut (suc more) xs at h = rw (drop_all at xs h)
-
-pub last_large : (more : ℕ) (xs : List ℕ) (at : ℕ) → more ≡ 0 → at < length xs → 15 < get_or xs at 0 → groups more (drop at xs) ≡ Err TooLarge
-last_large zero xs at z h b = rw (drop_more xs at 0 h, lt-leb (get_or xs at 0) 15 b)
-last_large (suc more) xs at z h b = absurd (omega arith)
-
-pub last_good : (more : ℕ) (xs : List ℕ) (at : ℕ) → more ≡ 0 → at < length xs → get_or xs at 0 ≤ 15 → groups more (drop at xs) ≡ Ok (get_or xs at 0, 1)
-last_good zero xs at z h b = rw (drop_more xs at 0 h, le-leb (get_or xs at 0) 15 b)
-last_good (suc more) xs at z h b = absurd (omega arith)
-
-pub one_byte : (more : ℕ) (xs : List ℕ) (at : ℕ) → (more ≡ 0 → ⊥) → at < length xs → get_or xs at 0 < 128 → groups more (drop at xs) ≡ Ok (get_or xs at 0, 1)
-one_byte zero xs at z h b = absurd (z refl)
-one_byte (suc more) xs at z h b = rw (drop_more xs at 0 h, lt-ltb (get_or xs at 0) 128 b)
 
 pub more_bytes : (more : ℕ) (xs : List ℕ) (at : ℕ) → (more ≡ 0 → ⊥) → at < length xs → 128 ≤ get_or xs at 0 → groups more (drop at xs) ≡ raised (get_or xs at 0 - 128) (groups (more - 1) (drop (at + 1) xs))
 more_bytes zero xs at z h b = absurd (z refl)
@@ -74,19 +56,3 @@ read_more xs at low s t next r lt h k f =
       small = omega (arith, m.0, r.small);
       same = r.same ∙ ap (above low s t) (more_bytes (4 - t) xs next (λ e. omega arith) h f) ∙ above_raised low s t (b - 128) _ ∙ ap (λ x. above (low + s * (b - 128)) (s * 128) (t + 1) (groups x (drop (next + 1) xs))) z;
     }
-
--- four groups were read
-pub all_four : (xs : List ℕ) (at low s t : ℕ) → Read xs at low s t (at + t) → 4 ≤ t → Read xs at low s 4 (at + 4)
-all_four xs at low s t r h = let e : t ≡ 4 = omega (arith, r.few) in subst (λ n. Read xs at low s n (at + n)) e r
-
-pub read_cut : (xs : List ℕ) (at low s t next : ℕ) → Read xs at low s t next → length xs ≤ next → groups 4 (drop at xs) ≡ Err CutShort
-read_cut xs at low s t next r h = r.same ∙ ap (above low s t) (cut (4 - t) xs next h)
-
-pub read_one : (xs : List ℕ) (at low s t next : ℕ) → Read xs at low s t next → t < 4 → next < length xs → get_or xs next 0 < 128 → groups 4 (drop at xs) ≡ Ok (low + s * get_or xs next 0, t + 1)
-read_one xs at low s t next r lt h b = r.same ∙ ap (above low s t) (one_byte (4 - t) xs next (λ e. omega arith) h b)
-
-pub read_large : (xs : List ℕ) (at low s t next : ℕ) → Read xs at low s t next → 4 ≤ t → next < length xs → 15 < get_or xs next 0 → groups 4 (drop at xs) ≡ Err TooLarge
-read_large xs at low s t next r ge h b = r.same ∙ ap (above low s t) (last_large (4 - t) xs next (omega (arith, ge)) h b)
-
-pub read_last : (xs : List ℕ) (at low s t next : ℕ) → Read xs at low s t next → 4 ≤ t → next < length xs → get_or xs next 0 ≤ 15 → groups 4 (drop at xs) ≡ Ok (low + s * get_or xs next 0, t + 1)
-read_last xs at low s t next r ge h b = r.same ∙ ap (above low s t) (last_good (4 - t) xs next (omega (arith, ge)) h b)

@@ -6,9 +6,8 @@ use trace::source::Source;
 // How many records come before the end, of eight at most; or the fault that comes before it.
 pub(crate) fn count_of<S: Source>(source: &mut S) -> Result<usize, Fault> {
     for n in 0..8 {
-        match source.next()? {
-            Some(_) => {}
-            None => return Ok(n),
+        if source.next()?.is_none() {
+            return Ok(n);
         }
     }
     Ok(8)
