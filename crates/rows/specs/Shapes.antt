@@ -1,8 +1,7 @@
--- A row without its value. Assumes nothing.
+-- A row without its value is its shape: its level, the last function of its path (0 where that is empty), the row of the path without
+-- that function (itself where there is none), and the path's length. Assumes nothing.
 use Rattle.std.specs.Prelude.{ℕ, ◌+◌, List, map, slice_index_or}
 use Rattle.rows.specs.declared.row.Row.{Row}
--- a row's shape: its level, the last function of its path (0 where that is empty), the row of the path without that function (itself where there is
--- none), and the path's length
 pub use Rattle.rows.specs.declared.row.Shape.{Shape}
 
 -- the shapes of a table's rows, by row number
