@@ -1,18 +1,9 @@
 use Rattle.std.proofs.Common.{◌+◌, get_or, drop, sym, ap, ◌∙◌, rules}
-use Rattle.std.proofs.lemmas.Result.{err_from_is_err_and}
-use Rattle.trace.proofs.Placing.{placed, fault_through, value_through}
+use Rattle.trace.proofs.Placing.{placed, value_through}
 use Rattle.trace.specs.Kinds.{kind_of_byte}
 use Rattle.trace.specs.Meanings.{found_at}
 use Rattle.trace_bytes.specs.Bytes.{fields_record}
 use Rattle.trace_bytes.proofs.record.read_record.Goals as goal
-
-pub returns-in_err-kind : goal.returns-in_err-kind
-returns-in_err-kind c =
-    let xs = c.args.bytes.now in
-    let at = c.args.at in
-    let p = err_from_is_err_and c.from_residual.result c.from_residual.ensures.1 in
-    let h = sym c.in_err-kind.was ∙ placed c.try_from.result c.map_err.result at c.map_err.ensures.cases (λ k f q. search rules) ∙ ap (λ r. found_at r at) c.try_from.ensures in
-    rw (p.1, p.2) (fault_through (kind_of_byte (get_or xs at 0)) (λ k. fields_record k (drop (at + 1) xs)) at _ h)
 
 pub returns : goal.returns
 returns c =
