@@ -57,7 +57,9 @@ mod tests {
         assert!(rt; Summary::over(&mut table[0..0]).is_err());
         assert!(rt; Summary::over(table.as_mut_slice()).is_err());
         assert!(rt; Summary::over(&mut table[0..65_535]).is_ok());
-        let mut summary = Summary::over(&mut table[0..1]).ok().ok_or("a row is enough")?;
+        let mut summary = Summary::over(&mut table[0..1])
+            .ok()
+            .ok_or("a row is enough")?;
         assert!(rt; summary.row_count() == 1 && summary.level() == 0);
         assert_eq!(rt; summary.return_(), Err(Rejection::TooFewRows));
         Ok(())
