@@ -39,6 +39,7 @@ impl<'a, M: Metric> Table<'a, M> {
         requires { length rows.old ≤ 65535 }
         ensures same { shapes result.rows.now ≡ shapes rows.old }
         ensures held { values M.means result.rows.now ≡ values M.means rows.old }
+        ensures noted { marks result.rows.now ≡ marks rows.old }
         ensures none { result.count ≡ 0 }
     {
         clear(rows);
