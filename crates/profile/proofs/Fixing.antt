@@ -1,15 +1,18 @@
 -- A read-in comes out in one way, and never rejects a record for its range. Assumes nothing.
-use Rattle.std.proofs.Common.{◌≡◌, ℕ, suc, ◌<◌, ◌≤◌, List, ◌∷◌, ◌++◌, length, take, drop, sym, ap, ◌+◌, ◌-◌, ◌∙◌, ⊎_elim, arith, length-drop}
+use Rattle.std.proofs.Common.{◌≡◌, ℕ, zero, suc, [], Ok, Err, subst, ◌<◌, ◌≤◌, List, ◌∷◌, ◌++◌, length, take, drop, sym, ap, ◌+◌, ◌-◌, ◌∙◌, ⊎_elim, arith, length-drop}
 use Rattle.std.proofs.Math.Seq.{take-add}
 use Rattle.std.proofs.lemmas.Bool.{cases_lt}
 use Rattle.trace.specs.declared.record.Record.{Record}
-use Rattle.trace.specs.Sources.{Ending}
+use Rattle.trace.specs.Ranges.{InRange}
+use Rattle.trace.specs.Sources.{Ending, Every}
 use Rattle.rows.specs.declared.rejection.Rejection.{Rejection}
+use Rattle.rows.specs.declared.rejection.Rejection.TheVariants.{OutOfRange}
 use Rattle.metrics.specs.Measures.{Measure}
 use Rattle.profile.specs.declared.reading.Stop.{Stop}
+use Rattle.profile.specs.declared.reading.Stop.TheVariants.{Rejected}
 use Rattle.profile.specs.Given.{Held, Accepts, Refuses}
-use Rattle.profile.specs.Reads.{steps, Stops, limited, ended, refused, Reads}
-use Rattle.profile.specs.Fixed.{ReadsFixed}
+use Rattle.profile.specs.Reads.{steps, stop_at, Stops, limited, ended, refused, Reads}
+use Rattle.profile.specs.Fixed.{ReadsFixed, NeverOutOfRange}
 
 -- what is accepted is not refused
 not_both : {M : Type 0} (a : Held M) (r : Record) (x : Rejection) → Accepts a r → Refuses a r x → ⊥
@@ -50,3 +53,24 @@ module _ {M : Type 0} (m : Measure M) where
       let other : Stops b limit n (drop n records) left' e t = rw (same, equal) q.stops in
       let both = stops_alike b p.stops other in
       record { summary = same; records = both.1; ending = p.ending ∙ sym q.ending; added = equal; stopped = both.0 }
+
+  every_drop : (n : ℕ) (xs : List Record) → Every InRange xs → Every InRange (drop n xs)
+  every_drop zero xs h = h
+  every_drop (suc n) [] h = tt
+  every_drop (suc n) (x ∷ xs) h = every_drop n xs h.1
+
+  ending_accepts : (e : Ending) → stop_at e ≡ Rejected OutOfRange → ⊥
+  ending_accepts (Ok u) h = absurd (cc)
+  ending_accepts (Err f) h = absurd (cc)
+
+  -- each record of the source is in range
+  pub never_out_of_range : (a b : Held M) (records left : List Record) (e f : Ending) (limit count : ℕ) (stop : Stop) → Every InRange records → Reads m a b records left e f limit count stop → NeverOutOfRange stop
+  never_out_of_range a b records left e f limit count stop every p h = go p.stops
+    where
+      go : Stops b limit count (drop count records) left e stop → ⊥
+      go (limited g is z) = absurd (cc)
+      go (ended below g is z) = ending_accepts e (sym is ∙ h)
+      go (refused r x below g j is) =
+          let same : x ≡ OutOfRange = cc in
+          let ranged : Every InRange (r ∷ left) = subst (Every InRange) g (every_drop count records every) in
+          subst (λ (y : Rejection). Refuses b r y) same j ranged.0

@@ -67,6 +67,10 @@ module _ (s : List Shape) (heads links : List ℕ) (n : ℕ) (room : n < length 
         (cases_eq k n);
   }
 
+-- no row is in a chain where each is empty
+pub indexed_none : (s : List Shape) (heads links : List ℕ) → ((h : ℕ) → h < length s → get_or heads h 0 ≡ 0) → Indexed s heads links 0
+indexed_none s heads links z = record { first = z; after = λ k l. absurd (omega arith) }
+
 -- ---- one proof at most
 indexed_prop : (s : List Shape) (heads links : List ℕ) (n : ℕ) → IsProp (Indexed s heads links n)
 indexed_prop s heads links n p q =

@@ -120,6 +120,9 @@ module _ (s s' : List Shape) (n : ℕ) (a : Alike s s' n) where
     levels = roots_alike s s' n a ∙ t.levels;
   }
 
+  pub sound_alike : (top cur : ℕ) → n ≤ length s' → Sound s n top cur → Sound s' n top cur
+  sound_alike top cur fits o = record { table = table_alike top fits o.table; opened = o.opened; here = rw (a cur o.opened) o.here }
+
 pub put_alike : (s : List Shape) (n : ℕ) (r : Shape) → Alike s (set s n r) n
 put_alike s n r k h = get_or-set_other s n k r blank (omega arith)
 
@@ -184,6 +187,26 @@ table_root s n top t room =
     })
     (λ k h z e p. absurd (omega arith))
     (omega (arith, roots_root s' n fn, t.levels))
+
+-- one row, the root, is a summary of no records
+pub table_new : (s : List Shape) → 0 < length s → Sound (set s 0 blank) 1 0 0
+table_new s h =
+    let s' = set s 0 blank in
+    let e : get_or s' 0 blank ≡ blank = get_or-set_same s 0 blank blank h in
+    let lv : (get_or s' 0 blank).level ≡ 0 = ap (λ (x : Shape). x.level) e in
+    let fn : (get_or s' 0 blank).function ≡ 0 = ap (λ (x : Shape). x.function) e in
+    let pa : (get_or s' 0 blank).parent ≡ 0 = ap (λ (x : Shape). x.parent) e in
+    let de : (get_or s' 0 blank).depth ≡ 0 = ap (λ (x : Shape). x.depth) e in
+    record {
+      table = record {
+        fits = simp length-set (omega arith);
+        good = λ k l. let z : 0 ≡ k = omega arith in subst (λ n. Good s' n) z (record { depth = omega arith; root = λ _. record { parent = pa; depth = de; level = lv }; child = λ x. absurd (omega arith) });
+        apart = λ j k a b _ _ _. omega arith;
+        levels = roots_root s' 0 fn;
+      };
+      opened = omega arith;
+      here = lv;
+    }
 
 -- ---- what holds of each row
 module _ (s : List Shape) (n top : ℕ) (t : Table s n top) where

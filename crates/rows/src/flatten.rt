@@ -13,6 +13,7 @@ impl<'a, M: Metric> Table<'a, M> {
     fn flatten_row(&mut self, i: usize) -> usize
         requires inside { i < length self.old.rows.now }
         requires ready { Ready (shapes self.old.rows.now) (marks self.old.rows.now) self.old.count i }
+        ensures same_reference { self.new.rows.ghost_name ≡ self.old.rows.ghost_name }
         ensures seated { Seated M.measure (shapes self.old.rows.now) (shapes self.new.rows.now) (values M.means self.old.rows.now) (values M.means self.new.rows.now) (marks self.old.rows.now) (marks self.new.rows.now) self.old.count i result }
         ensures count { self.new.count ≡ max self.old.count (result + 1) }
     {
@@ -33,6 +34,7 @@ impl<'a, M: Metric> Table<'a, M> {
     // nothing is lost.
     pub fn flatten(self, top: usize) -> Table<'a, M>
         requires { Levels (shapes self.rows.now) self.count top }
+        ensures same_reference { result.rows.ghost_name ≡ self.entry.rows.ghost_name }
         ensures long { length result.rows.now ≡ length self.entry.rows.now }
         ensures flat { Flattening M.measure (shapes self.entry.rows.now) (shapes result.rows.now) (values M.means self.entry.rows.now) (values M.means result.rows.now) (marks result.rows.now) result.count self.entry.count }
     {

@@ -37,6 +37,7 @@ impl<'a, M: Metric> Table<'a, M> {
     // A table with no row in use.
     pub fn new(rows: &'a mut [Row<M>]) -> Table<'a, M>
         requires { length rows.old ≤ 65535 }
+        ensures same_reference { result.rows.ghost_name ≡ rows.entry.ghost_name }
         ensures same { shapes result.rows.now ≡ shapes rows.old }
         ensures held { values M.means result.rows.now ≡ values M.means rows.old }
         ensures noted { marks result.rows.now ≡ marks rows.old }
@@ -50,9 +51,12 @@ impl<'a, M: Metric> Table<'a, M> {
     pub(crate) fn note(&mut self, i: usize, to: usize)
         requires row { i < length self.old.rows.now }
         requires small { to ≤ 65535 }
+        ensures same_reference { self.new.rows.ghost_name ≡ self.old.rows.ghost_name }
         ensures same { shapes self.new.rows.now ≡ shapes self.old.rows.now }
         ensures held { values M.means self.new.rows.now ≡ values M.means self.old.rows.now }
         ensures noted { marks self.new.rows.now ≡ slice_set (marks self.old.rows.now) i to }
+        ensures head { heads self.new.rows.now ≡ heads self.old.rows.now }
+        ensures link { links self.new.rows.now ≡ links self.old.rows.now }
         ensures count { self.new.count ≡ self.old.count }
     {
         self.rows[i].mark = to as u16;
@@ -61,6 +65,7 @@ impl<'a, M: Metric> Table<'a, M> {
     // Joins a value to that of the row i.
     pub fn book(&mut self, i: usize, value: M)
         requires { i < length self.old.rows.now }
+        ensures same_reference { self.new.rows.ghost_name ≡ self.old.rows.ghost_name }
         ensures same { shapes self.new.rows.now ≡ shapes self.old.rows.now }
         ensures held { values M.means self.new.rows.now ≡ slice_set (values M.means self.old.rows.now) i (M.measure.join (slice_index_or (values M.means self.old.rows.now) i M.measure.none) (M.means value)) }
         ensures noted { marks self.new.rows.now ≡ marks self.old.rows.now }
@@ -75,9 +80,12 @@ impl<'a, M: Metric> Table<'a, M> {
     // Takes the value of the row i out, and leaves the unit.
     pub(crate) fn take(&mut self, i: usize) -> M
         requires { i < length self.old.rows.now }
+        ensures same_reference { self.new.rows.ghost_name ≡ self.old.rows.ghost_name }
         ensures same { shapes self.new.rows.now ≡ shapes self.old.rows.now }
         ensures held { values M.means self.new.rows.now ≡ slice_set (values M.means self.old.rows.now) i M.measure.none }
         ensures noted { marks self.new.rows.now ≡ marks self.old.rows.now }
+        ensures head { heads self.new.rows.now ≡ heads self.old.rows.now }
+        ensures link { links self.new.rows.now ≡ links self.old.rows.now }
         ensures count { self.new.count ≡ self.old.count }
         ensures value { M.means result ≡ slice_index_or (values M.means self.old.rows.now) i M.measure.none }
     {
@@ -89,6 +97,7 @@ impl<'a, M: Metric> Table<'a, M> {
     // Takes the row after those in use into use as it is.
     pub(crate) fn take_in(&mut self)
         requires { self.old.count < length self.old.rows.now }
+        ensures same_reference { self.new.rows.ghost_name ≡ self.old.rows.ghost_name }
         ensures same { shapes self.new.rows.now ≡ shapes self.old.rows.now }
         ensures held { values M.means self.new.rows.now ≡ values M.means self.old.rows.now }
         ensures noted { marks self.new.rows.now ≡ marks self.old.rows.now }
@@ -103,6 +112,7 @@ impl<'a, M: Metric> Table<'a, M> {
     // Puts a row with the unit after those in use.
     pub fn push(&mut self, shape: Shape)
         requires { self.old.count < length self.old.rows.now }
+        ensures same_reference { self.new.rows.ghost_name ≡ self.old.rows.ghost_name }
         ensures same { shapes self.new.rows.now ≡ slice_set (shapes self.old.rows.now) self.old.count shape }
         ensures held { values M.means self.new.rows.now ≡ slice_set (values M.means self.old.rows.now) self.old.count M.measure.none }
         ensures noted { marks self.new.rows.now ≡ marks self.old.rows.now }

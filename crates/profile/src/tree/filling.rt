@@ -25,7 +25,7 @@ impl<'a, M: Metric> Tree<'a, M> {
         ensures { Shaping self.now column.old column.new result }
     {
         self.places(column)?;
-        self.table.fill_shape(column);
+        self.table.fill_shape_first(self.table.count(), column);
         Ok(())
     }
 
@@ -34,7 +34,7 @@ impl<'a, M: Metric> Tree<'a, M> {
         ensures { Inclusion M.measure M.means self.now (meanings M.means column.old) (meanings M.means column.new) result }
     {
         self.places(column)?;
-        self.table.fill(column);
+        self.table.fill_first(self.table.count(), column);
         Ok(())
     }
 }

@@ -54,6 +54,7 @@ impl<'a, M: Metric> Table<'a, M> {
         requires room { self.old.count < length self.old.rows.now }
         requires below { up < self.old.count }
         requires shallow { (slice_index_or (shapes self.old.rows.now) up blank).depth < 512 }
+        ensures same_reference { self.new.rows.ghost_name ≡ self.old.rows.ghost_name }
         ensures reached { Reached M.measure.none (shapes self.old.rows.now) (shapes self.new.rows.now) (values M.means self.old.rows.now) (values M.means self.new.rows.now) self.old.count up function result }
         ensures noted { marks self.new.rows.now ≡ marks self.old.rows.now }
         ensures count { self.new.count ≡ max self.old.count (result + 1) }
@@ -75,6 +76,7 @@ impl<'a, M: Metric> Table<'a, M> {
     // The same, where the path may be too long or the table full.
     fn reach(&mut self, up: usize, function: u16) -> Result<usize, Rejection>
         requires { up < self.old.count }
+        ensures same_reference { self.new.rows.ghost_name ≡ self.old.rows.ghost_name }
         ensures reached { Reach M.measure.none (shapes self.old.rows.now) (shapes self.new.rows.now) (values M.means self.old.rows.now) (values M.means self.new.rows.now) self.old.count up function result }
         ensures count { Counted self.old.count self.new.count result }
     {
@@ -90,6 +92,7 @@ impl<'a, M: Metric> Table<'a, M> {
     // The same, with the value of a call joined.
     pub fn enter(&mut self, up: usize, function: u16) -> Result<usize, Rejection>
         requires { up < self.old.count }
+        ensures same_reference { self.new.rows.ghost_name ≡ self.old.rows.ghost_name }
         ensures entered { Enter M.measure.none M.measure.join M.measure.of_call (shapes self.old.rows.now) (shapes self.new.rows.now) (values M.means self.old.rows.now) (values M.means self.new.rows.now) self.old.count up function result }
         ensures count { Counted self.old.count self.new.count result }
     {

@@ -22,6 +22,7 @@ returns g c =
     let d = c.index-self-i-2.result in
     let own = read_value rows i m.means c.index-self-i.result m.measure.none c.requires in
     record {
+      same_reference = refl;
       same = kept_shapes rows i _ d c.requires refl;
       held = wrote_value rows i m.means _ ∙ ap (set (values m.means rows) i) (c.join.ensures ∙ ap (λ v. m.measure.join v (m.means c.args.value)) own);
       noted = kept_marks rows i _ d c.requires refl;

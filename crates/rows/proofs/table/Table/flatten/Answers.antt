@@ -23,6 +23,7 @@ loop-i-init g c =
           (flat_start g.met.M.Metric.lawful (shapes rows) (values m.means rows) a.count c.args.top t (marks rows)
           (ap (λ u. get_or u 0 0) c.note.ensures.noted ∙ get_or-set_same (marks before) 0 0 0 h)),
       refl,
+      refl,
     )
 
 pub flatten_row-requires : goal.flatten_row-requires
@@ -54,6 +55,7 @@ loop-i-preserved g c =
     let w = flat_step g.met.M.Metric.lawful (shapes rows) (values m.means rows) a.count c.args.top t (shapes now) (values m.means now) (marks now) c.loop-i.tree.count c.loop-i.i (omega arith) c.loop-i.invariant.0 (shapes after) (values m.means after) (marks after) c.flatten_row.result im iv x.seated in (
       subst (λ k. Flattening m.measure (shapes rows) (shapes after) (values m.means rows) (values m.means after) (marks after) k (c.loop-i.i + 1)) (sym x.count) w,
       omega (arith, ap length x.seated.noted, length-set (marks now) c.loop-i.i c.flatten_row.result, long_marks now, long_marks after, c.loop-i.invariant.1),
+      x.same_reference ∙ c.loop-i.invariant.2,
     )
 
 pub returns : goal.returns
@@ -67,6 +69,7 @@ returns g c =
     let e : c.loop-i.i ≡ a.count = omega (arith, some _ _ _ c.requires) in
     let w = subst (λ k. Flattening m.measure (shapes first) (shapes rows) (values m.means first) (values m.means rows) (marks rows) c.loop-i.tree.count k) e c.loop-i.invariant.0 in
     record {
+      same_reference = c.loop-i.invariant.2 ∙ c.note.ensures.same_reference ∙ c.take_in.ensures.same_reference ∙ c.new-tree.ensures.same_reference;
       long = omega (arith, c.loop-i.invariant.1, as_long _ _ (ap length es));
       flat = subst (λ u. Flattening m.measure u (shapes rows) (values m.means a.rows.now) (values m.means rows) (marks rows) c.loop-i.tree.count a.count) es
           (subst (λ u. Flattening m.measure (shapes first) (shapes rows) u (values m.means rows) (marks rows) c.loop-i.tree.count a.count) ev w);

@@ -20,8 +20,11 @@ returns g c =
     let i = c.args.i in
     let d = c.index-self-i.result in
     record {
+      same_reference = refl;
       same = kept_shapes rows i _ d c.requires.row refl;
       held = kept_values rows i m.means _ d c.requires.row refl;
       noted = wrote_mark rows i _;
+      head = kept_heads rows i _ d c.requires.row refl;
+      link = kept_links rows i _ d c.requires.row refl;
       count = refl;
     }

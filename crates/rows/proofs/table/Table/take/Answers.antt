@@ -21,9 +21,12 @@ returns g c =
     let i = c.args.i in
     let d = c.index-self-i-2.result in
     record {
+      same_reference = refl;
       same = kept_shapes rows i _ d c.requires refl;
       held = wrote_value rows i m.means _ ∙ ap (set (values m.means rows) i) c.unit.ensures;
       noted = kept_marks rows i _ d c.requires refl;
+      head = kept_heads rows i _ d c.requires refl;
+      link = kept_links rows i _ d c.requires refl;
       count = refl;
       value = read_value rows i m.means c.index-self-i.result m.measure.none c.requires;
     }

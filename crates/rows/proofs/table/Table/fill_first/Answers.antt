@@ -5,15 +5,15 @@ use Rattle.rows.specs.Cells.{values}
 use Rattle.rows.specs.Columns.{meanings, handed, Filling}
 use Rattle.rows.proofs.Sounds.{some}
 use Rattle.rows.proofs.Columns.{fill_start, fill_step, fill_end, parent_low}
-use Rattle.rows.proofs.table.Table.fill.Goals as goal
+use Rattle.rows.proofs.table.Table.fill_first.Goals as goal
 
 pub loop-i-init : goal.loop-i-init
 loop-i-init g c =
     let m = g.M.Metric in
     let rows = c.args.self.now.rows.now in
-    let col = meanings m.means c.copy_all.new.column in
-    let l : c.args.self.now.count ≤ length col = rw length-map (omega arith) in
-    (fill_start (shapes rows) c.args.self.now.count c.requires.tree g.met.M.Metric.lawful (values m.means rows) col l c.copy_all.ensures.copied, (λ k h. refl), some _ _ _ c.requires.tree, omega arith)
+    let col = meanings m.means c.copy_first.new.column in
+    let l : c.args.n ≤ length col = rw length-map (omega arith) in
+    (fill_start (shapes rows) c.args.n c.requires.tree g.met.M.Metric.lawful (values m.means rows) col l c.copy_first.ensures.copied, (λ k h. refl), some _ _ _ c.requires.tree, omega arith)
 
 pub loop-i-preserved : goal.loop-i-preserved
 loop-i-preserved g c =
@@ -22,7 +22,7 @@ loop-i-preserved g c =
     let rows = c.args.self.now.rows.now in
     let s = shapes rows in
     let v = values m.means rows in
-    let n = c.args.self.now.count in
+    let n = c.args.n in
     let r = c.loop-i.i - 1 in
     let col = meanings m.means c.loop-i.column in
     let col' = meanings m.means c.hand_up.new.column in
@@ -44,11 +44,11 @@ returns g c =
     let rows = c.args.self.now.rows.now in
     let s = shapes rows in
     let v = values m.means rows in
-    let n = c.args.self.now.count in
+    let n = c.args.n in
     let col = meanings m.means c.loop-i.column in
     let i = c.loop-i.invariant in
     let e : c.loop-i.i ≡ 1 = omega (arith, i.2) in
     record {
       filled = fill_end s n c.requires.tree g.met.M.Metric.lawful v col (subst (λ k. Filling m.measure s v col n k) e i.0);
-      rest = λ k h. i.1 k h ∙ c.copy_all.ensures.rest k h;
+      rest = λ k h. i.1 k h ∙ c.copy_first.ensures.rest k h;
     }
