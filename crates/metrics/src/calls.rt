@@ -18,6 +18,10 @@ impl Amount for CallCount {
     fn of_sample(_sample: Sample) -> u64 {
         0
     }
+
+    fn names() -> (&'static str, &'static str) {
+        ("Calls", "count")
+    }
 }
 
 // A number of calls.

@@ -5,6 +5,7 @@ ghost use Rattle.metrics.specs.Sums.{Capped, capped, sums};
 ghost use Rattle.metrics.specs.Lawful.{sums_laws};
 
 use crate::metric::Metric;
+use std::fmt;
 use std::marker::PhantomData;
 use trace::record::Sample;
 
@@ -19,13 +20,26 @@ pub trait Amount: Copy {
 
     fn of_sample(taken: Sample) -> u64
         ensures { result ≡ sample taken };
+
+    // The names that `{:?}` writes, of the sum and of its total.
+    fn names() -> (&'static str, &'static str) {
+        ("Sum", "total")
+    }
 }
 
 // A sum of such amounts, which stops at 18,446,744,073,709,551,615. Whoever wants another sum writes an amount; the laws hold of it.
-#[derive(Clone, Copy, PartialEq, Eq, Debug)]
+#[derive(Clone, Copy, PartialEq, Eq)]
 pub struct Sum<A> {
     pub total: u64,
-    amount: PhantomData<A>,
+    // what it counts; public, so that a constant can be written
+    pub amount: PhantomData<A>,
+}
+
+impl<A: Amount> fmt::Debug for Sum<A> {
+    fn fmt<W: fmt::Write>(&self, f: &mut fmt::Formatter<W>) -> fmt::Result {
+        let (sum, total) = A::names();
+        f.debug_struct(sum).field(total, &self.total).finish()
+    }
 }
 
 impl<A> Sum<A> {

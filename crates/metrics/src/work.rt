@@ -18,6 +18,10 @@ impl Amount for SampleWeight {
     fn of_sample(sample: Sample) -> u64 {
         u64::from(sample.weight)
     }
+
+    fn names() -> (&'static str, &'static str) {
+        ("Work", "weight")
+    }
 }
 
 // A sum of weights.

@@ -6,12 +6,14 @@
 mod tests {
     use metrics::calls::Calls;
     use metrics::metric::Metric;
+    use metrics::sum::Sum;
     use metrics::work::Work;
     use profile::reading::{ReadIn, Stop, read_in};
     use profile::summary::{Summary, check_table};
     use rows::rejection::Rejection;
     use rows::row::Row;
     use rows::shape::ShapeRow;
+    use std::marker::PhantomData;
     use std::process::Abort;
     use std::test::Fail;
     use trace::fault::{Cause, Fault};
@@ -27,6 +29,24 @@ mod tests {
         site: 0,
         region: 0,
     };
+
+    // a sum is a literal where a constant needs one
+    const NO_CALLS: Calls = Sum {
+        total: 0,
+        amount: PhantomData,
+    };
+
+    const WORK_5: Work = Sum {
+        total: 5,
+        amount: PhantomData,
+    };
+
+    #[test]
+    fn sums_are_written_by_their_names(rt: HostRuntime) -> Result<(), Fail> {
+        let text = format!(in rt.alloc(); "{:?} {:?}", NO_CALLS, WORK_5)?;
+        assert_eq!(rt; text.as_str(), "Calls { count: 0 } Work { weight: 5 }");
+        Ok(())
+    }
 
     #[test]
     fn new_has_one_row(rt: HostRuntime) -> Result<(), Fail> {
