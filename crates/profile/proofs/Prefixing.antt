@@ -4,10 +4,11 @@ use Rattle.std.proofs.Math.Seq.{take-add}
 use Rattle.std.proofs.lemmas.List.{drop-drop}
 use Rattle.std.proofs.lemmas.List.Sums.{fold-append}
 use Rattle.trace.specs.declared.record.Record.{Record}
+use Rattle.trace.specs.declared.fault.Fault.{Fault}
 use Rattle.trace.specs.Sources.{Ending, answered, rest}
 use Rattle.rows.specs.declared.rejection.Rejection.{Rejection}
 use Rattle.profile.specs.declared.reading.Stop.{Stop}
-use Rattle.profile.specs.declared.reading.Stop.TheVariants.{Limit, End, Rejected}
+use Rattle.profile.specs.declared.reading.Stop.TheVariants.{Limit, End, Faulted, Rejected}
 use Rattle.metrics.specs.Measures.{Measure}
 use Rattle.profile.specs.Given.{Held, step, Accepts, Given}
 use Rattle.profile.specs.Reads.{steps, stop_at, Stops, limited, ended, refused, Reads}
@@ -62,6 +63,12 @@ module _ {M : Type 0} (m : Measure M) where
   one_ended a [] ys (Ok _) e' h left same = record { enough = omega arith; each = none a; left = refl; ending = same; stops = ended (omega arith) refl refl left }
   one_ended a [] ys (Err f) e' h left same = absurd (cc)
   one_ended a (x ∷ xs) ys e e' h left same = absurd (cc)
+
+  -- the source ends in a fault
+  pub one_faulted : (a : Held M) (xs ys : List Record) (e e' : Ending) (f : Fault) → Err f ≡ answered xs e → ys ≡ rest xs → e' ≡ e → Reads m a a xs ys e e' 1 0 (Faulted f)
+  one_faulted a [] ys (Ok _) e' f h left same = absurd (cc)
+  one_faulted a [] ys (Err k) e' f h left same = let is : f ≡ k = cc in record { enough = omega arith; each = none a; left = refl; ending = same; stops = ended (omega arith) refl (ap Faulted is) left }
+  one_faulted a (x ∷ xs) ys e e' f h left same = absurd (cc)
 
   -- what a reached limit leaves
   left_over : {k : ℕ} {a : Held M} {others now : List Record} {e : Ending} → Stops a k k others now e Limit → now ≡ others

@@ -52,9 +52,10 @@ pub struct ReadIn {
 fn read_one<S: Source, M: Metric>(source: &mut S, summary: &mut Summary<'_, M>) -> Result<(), Stop>
     ensures { ReadsOne M.Metric.measure (view M.Metric.measure M.Metric.means summary.old) (view M.Metric.measure M.Metric.means summary.new) (S.Source.records source.old) (S.Source.records source.new) (S.Source.ending source.old) (S.Source.ending source.new) result }
 {
-    match source.next()? {
-        Some(record) => Ok(summary.add(record)?),
-        None => Err(Stop::End),
+    match source.next() {
+        Ok(Some(record)) => Ok(summary.add(record)?),
+        Ok(None) => Err(Stop::End),
+        Err(fault) => Err(Stop::from(fault)),
     }
 }
 
