@@ -17,7 +17,7 @@ pub checked_good : (b : Bool) (r : Record) → (b ≡ true → InRange r) → Go
 checked_good true r h = h refl
 checked_good false r h = tt
 
-drop_middle : (x y z : Bool) → (x && (y && z)) ≡ true → (x && z) ≡ true
+pub drop_middle : (x y z : Bool) → (x && (y && z)) ≡ true → (x && z) ≡ true
 drop_middle true true z h = h
 drop_middle true false true h = refl
 drop_middle true false false h = h

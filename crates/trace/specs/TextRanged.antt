@@ -12,7 +12,7 @@ use Rattle.trace.specs.declared.kind.Kind.{Kind}
 use Rattle.trace.specs.declared.record.Record.{Record}
 
 -- what is made of a value is in range
-then_good : {X : Type 0} (r : Result X Cause) (f : X → Result Record Cause) → ((x : X) → Good (f x)) → Good (and_then r f)
+pub then_good : {X : Type 0} (r : Result X Cause) (f : X → Result Record Cause) → ((x : X) → Good (f x)) → Good (and_then r f)
 then_good (Ok x) f h = h x
 then_good (Err c) f h = tt
 

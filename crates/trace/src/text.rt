@@ -48,7 +48,9 @@ impl Source for TextSource<'_> {
     }
 }
 
-// The place of the first line from `at` on that is not empty, if there is one.
+// The place of the first line from `at` on that is not empty, if there is one. Inlined, its loop would carry along what the caller
+// makes of the place, at each of many empty lines.
+#[inline(never)]
 fn first_line(text: &[u8], at: usize) -> Option<usize>
     ensures { result ≡ position_from (λ b. not (b == 10)) at (drop at text.now) }
 {
