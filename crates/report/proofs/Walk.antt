@@ -19,9 +19,10 @@ node_read s t tree r i x h e read =
     get_or_read_under (vec_items t.nodes) i (vec_len t.nodes) x no_node read l t.nodes.ok.0 ∙ ap (node_at (vec_items t.nodes)) e
 
 -- the entries that are read from a row's start on
-pub rest_read : (s : List ShapeRow) (t : Tree) → TreeOf s t → (r i : ℕ) (x : Node) (entries : List Entry) → r < length s → i ≡ r → x ≡ get_or (vec_items t.nodes) i x → entries ≡ vec_items t.order → take (length entries - x.start) (drop x.start entries) ≡ drop (node_at (vec_items t.nodes) r).start (vec_items t.order)
-rest_read s t tree r i x entries h ei read e =
-    ap (λ o. take (length o - x.start) (drop x.start o)) e
+pub rest_read : (s : List ShapeRow) (t : Tree) → TreeOf s t → (r i : ℕ) (x : Node) (n : ℕ) (entries : List Entry) → r < length s → i ≡ r → x ≡ get_or (vec_items t.nodes) i x → n ≡ x.start → entries ≡ vec_items t.order → take (length entries - n) (drop n entries) ≡ drop (node_at (vec_items t.nodes) r).start (vec_items t.order)
+rest_read s t tree r i x n entries h ei read en e =
+    ap (λ k. take (length entries - k) (drop k entries)) en
+    ∙ ap (λ o. take (length o - x.start) (drop x.start o)) e
     ∙ take_rest (vec_items t.order) x.start
     ∙ ap (λ y. drop y.start (vec_items t.order)) (node_read s t tree r i x h ei read)
 

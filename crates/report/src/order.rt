@@ -55,6 +55,7 @@ pub(crate) fn has_twins(order: &[Entry]) -> bool
 
 // Writes into each row's node where its children begin: at the first entry with that parent.
 pub(crate) fn find_starts(order: &[Entry], nodes: &mut [Node])
+    requires most { length order.now ≤ 65535 }
     requires parents { EachIndex order.now (λ k. (entry_at order.now k).parent < length nodes.old) }
     requires past { EachIndex nodes.old (λ i. (node_at nodes.old i).start ≡ length order.now) }
     ensures starts { EachIndex nodes.new (λ i. Begins order.now i (node_at nodes.new i).start) }
@@ -62,6 +63,6 @@ pub(crate) fn find_starts(order: &[Entry], nodes: &mut [Node])
 {
     for (k, entry) in order.iter().enumerate() {
         let parent = &mut nodes[usize::from(entry.parent)];
-        parent.start = parent.start.min(k);
+        parent.start = parent.start.min(k as u16);
     }
 }

@@ -51,7 +51,7 @@ fn children(shape: &[ShapeRow], tree: &Tree, parent: u16, at: usize, column: &mu
 {
     let mut end = at;
     let start = tree.nodes[usize::from(parent)].start;
-    for entry in &tree.order[start..] {
+    for entry in &tree.order[usize::from(start)..] {
         let child = entry.row;
         if shape[usize::from(child)].parent != parent {
             break;

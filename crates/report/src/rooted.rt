@@ -39,7 +39,7 @@ pub(crate) fn nodes_of(heap: Global, shape: &[ShapeRow]) -> Result<Vec<Node>, Al
     ensures depths { IfOk result (λ v. EachIndex v.items (λ i. (node_at v.items i).depth ≡ depth_of shape.now i)) }
     ensures starts { IfOk result (λ v. EachIndex v.items (λ i. (node_at v.items i).start + 1 ≡ length shape.now)) }
 {
-    let start = shape.len() - 1;
+    let start = shape.len() as u16 - 1;
     let mut nodes = vec![in heap; Node { depth: 0, start }]?;
     for row in &shape[1..] {
         let above = nodes[usize::from(row.parent)].depth;

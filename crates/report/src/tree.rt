@@ -14,8 +14,8 @@ use std::alloc::Global;
 pub(crate) struct Node {
     // how many rows stand above it, up to row 0
     pub depth: u16,
-    // the place in the order where its children begin, and the order's length where it has none
-    pub start: usize,
+    // the place in the order where its children begin, and the order's length where it has none; a shape has 65,535 rows at most
+    pub start: u16,
 }
 
 #[derive(Drop)]

@@ -12,7 +12,7 @@ pub children-loop-entry-init : goal.children-loop-entry-init
 children-loop-entry-init t c =
     let s = c.args.shape.now in
     let p = c.args.parent in
-    let rest = rest_read s c.args.tree.now c.requires.tree p c.from.result c.index.result.now c.deref.result.now c.requires.parent c.from.ensures c.index.ensures c.deref.ensures.value in
+    let rest = rest_read s c.args.tree.now c.requires.tree p c.from.result c.index.result.now c.from-2.result c.deref.result.now c.requires.parent c.from.ensures c.index.ensures c.from-2.ensures c.deref.ensures.value in
     let sizes = row_sizes s c.args.tree.now c.requires.shape c.requires.tree p c.requires.parent in
     record {
       long = omega (arith, sizes, ap (λ es. sizes_of s (led_by s p es)) rest);
@@ -22,8 +22,8 @@ children-loop-entry-init t c =
 pub children-loop-entry-preserved : goal.children-loop-entry-preserved
 children-loop-entry-preserved t c =
     let s = c.args.shape.now in
-    let es = drop c.index.result.now.start c.deref.result.now in
-    let entries = take (length c.deref.result.now - c.index.result.now.start) es in
+    let es = drop c.from-2.result c.deref.result.now in
+    let entries = take (length c.deref.result.now - c.from-2.result) es in
     let k = c.loop-entry.entry-index in
     let leads = led_step s entries c.args.parent k c.loop-entry-test.true (ap (parent_at s) (sym c.from-in-loop-entry.ensures) ∙ c.if-shape-from.false) in
     record {
@@ -34,14 +34,14 @@ children-loop-entry-preserved t c =
 pub children-returns-after-loop-entry-clause-drawn : goal.children-returns-after-loop-entry-clause-drawn
 children-returns-after-loop-entry-clause-drawn t c =
     let s = c.args.shape.now in
-    let entries = take (length c.deref.result.now - c.index.result.now.start) (drop c.index.result.now.start c.deref.result.now) in
+    let entries = take (length c.deref.result.now - c.from-2.result) (drop c.from-2.result c.deref.result.now) in
     c.loop-entry.invariant.completes c.loop-entry.end c.loop-entry.column
     (rows_none s _ c.loop-entry.end c.loop-entry.column (led_none s entries c.args.parent c.loop-entry.entry-index c.loop-entry-test.false))
 
 pub children-returns-then-shape-from-clause-drawn : goal.children-returns-then-shape-from-clause-drawn
 children-returns-then-shape-from-clause-drawn t c =
     let s = c.args.shape.now in
-    let entries = take (length c.deref.result.now - c.index.result.now.start) (drop c.index.result.now.start c.deref.result.now) in
+    let entries = take (length c.deref.result.now - c.from-2.result) (drop c.from-2.result c.deref.result.now) in
     c.loop-entry.invariant.completes c.loop-entry.end c.loop-entry.column
     (rows_none s _ c.loop-entry.end c.loop-entry.column (led_end s entries c.args.parent c.loop-entry.entry-index c.loop-entry-test.true (λ e. c.if-shape-from.true (ap (parent_at s) c.from-in-loop-entry.ensures ∙ e))))
 
