@@ -22,6 +22,8 @@ use report::page::{Footer, Name, PageLine, StopLine, page_text, stop_text};
 use rows::row::Row;
 use rows::shape::ShapeRow;
 use std::alloc::{AllocError, Global};
+use std::error::Error;
+use std::fmt;
 use trace::text::TextSource;
 
 // What is measured for a page: calls beside work.
@@ -40,7 +42,7 @@ const MOST_RECORDS: usize = 65_538;
 const ROWS: usize = 1_024;
 
 // Why there is no page.
-#[derive(Drop)]
+#[derive(Debug, Drop)]
 pub enum PrintError {
     // reading stopped; the one line, with its end, that is printed in place of a page
     Stopped(String),
@@ -55,6 +57,17 @@ impl From<AllocError> for PrintError {
         PrintError::NoMemory(error)
     }
 }
+
+impl fmt::Display for PrintError {
+    fn fmt<W: fmt::Write>(&self, f: &mut fmt::Formatter<W>) -> fmt::Result {
+        match self {
+            PrintError::Stopped(line) => write!(f, "{line}"),
+            PrintError::NoMemory(error) => write!(f, "{error}"),
+        }
+    }
+}
+
+impl Error for PrintError {}
 
 // The tree's shape in a column of its own.
 fn shape_of(heap: Global, tree: &Tree<'_, Cost>) -> Result<Vec<ShapeRow>, AllocError>

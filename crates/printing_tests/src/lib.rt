@@ -57,6 +57,16 @@ mod tests {
     ];
 
     #[test]
+    fn an_error_shows_its_line(rt: HostRuntime) -> Result<(), Fail> {
+        let shown = match print_trace(rt.alloc(), b"call") {
+            Ok(page) => page,
+            Err(error) => format!(in rt.alloc(); "{error}")?,
+        };
+        assert_eq!(rt; shown.as_str(), "stopped 1 0 0\n");
+        Ok(())
+    }
+
+    #[test]
     fn pages_and_stops(rt: HostRuntime) -> Result<(), Fail> {
         for (trace, page) in PAGES.iter().chain(STOPS.iter()) {
             let text = printed(rt.alloc(), trace.as_bytes())?;
