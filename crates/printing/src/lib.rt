@@ -42,7 +42,7 @@ const MOST_RECORDS: usize = 65_538;
 const ROWS: usize = 1_024;
 
 // Why there is no page.
-#[derive(Debug, Drop)]
+#[derive(PartialEq, Eq, Debug, Drop)]
 pub enum PrintError {
     // reading stopped; the one line, with its end, that is printed in place of a page
     Stopped(String),

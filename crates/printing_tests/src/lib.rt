@@ -63,6 +63,8 @@ mod tests {
             Err(error) => format!(in rt.alloc(); "{error}")?,
         };
         assert_eq!(rt; shown.as_str(), "stopped 1 0 0\n");
+        let page = print_trace(rt.alloc(), b"back")?;
+        assert_eq!(rt; page.as_str(), "0 . 0 0 0 0\nstrays 1 open 0\n");
         Ok(())
     }
 

@@ -26,7 +26,7 @@ split (y ∷ xs) ys (f ∷ front) x back h =
     (split xs ys front x back left)
 
 -- an answer that is a record is the first to come
-some_next : (xs : List Record) (e : Ending) (r : Record) → Ok (Some r) ≡ answered xs e → xs ≡ r ∷ rest xs
+pub some_next : (xs : List Record) (e : Ending) (r : Record) → Ok (Some r) ≡ answered xs e → xs ≡ r ∷ rest xs
 some_next xs e r h = grind arith
 
 module _ {M : Type 0} (m : Measure M) where
