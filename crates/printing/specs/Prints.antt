@@ -1,5 +1,5 @@
 -- What is printed of a text trace. Assumes nothing.
-use Rattle.std.specs.Prelude.{◌≡◌, ℕ, Bool, List, length, Ok, Err, Result, String, string_bytes, MatchBool, nat_lt}
+use Rattle.std.specs.Prelude.{◌≡◌, ℕ, Bool, List, length, Some, None, Option, Ok, Err, Result, String, string_bytes, MatchBool, nat_lt}
 use Rattle.trace.specs.declared.record.Record.{Record}
 use Rattle.trace.specs.Sources.{Ending}
 use Rattle.trace.specs.Faults.{number as cause_number}
@@ -72,6 +72,11 @@ Came text line = MatchBool (too_long text) (line ≡ Err (stop_line 15 65536 0))
 abbrev pub Tells : PrintError → StopLine → Type 0
 Tells (Stopped s) l = string_bytes s ≡ ended (stop_text l)
 Tells (NoMemory e) l = Unit {0}
+
+-- what an error shows: a stop its line, with the line's end; what want of memory shows is not said
+abbrev pub shown : PrintError → Option (List ℕ)
+shown (Stopped s) = Some (string_bytes s)
+shown (NoMemory e) = None
 
 -- nothing is answered for a reading that came to its end, and an error that tells the line for one that stopped
 abbrev pub GoesOn : Result (Unit {0}) StopLine → Result (Unit {0}) PrintError → Type 0

@@ -7,7 +7,7 @@ ghost use Rattle.std.specs.List.{AllByRecursion};
 ghost use Rattle.rows.specs.ShapeColumn.{IsShape};
 ghost use Rattle.profile.specs.declared.reading.Stop.TheVariants.{Limit};
 ghost use Rattle.printing.specs.declared.PrintError.TheVariants.{NoMemory};
-ghost use Rattle.printing.specs.Prints.{page_line, stopping, Prints, Tells, GoesOn};
+ghost use Rattle.printing.specs.Prints.{page_line, stopping, shown, Prints, Tells, GoesOn};
 
 use metrics::calls::Calls;
 use metrics::metric::Metric;
@@ -58,7 +58,10 @@ impl From<AllocError> for PrintError {
     }
 }
 
+// A stop shows its line, as it is printed.
 impl fmt::Display for PrintError {
+    ghost output = { λ error. shown error };
+
     fn fmt<W: fmt::Write>(&self, f: &mut fmt::Formatter<W>) -> fmt::Result {
         match self {
             PrintError::Stopped(line) => write!(f, "{line}"),
